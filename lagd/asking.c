@@ -148,7 +148,7 @@ static bool ask_one(struct asking *own, struct daemon *daemon) {
 }
 
 /* Tells a daemon an order; answers what it said, without the line end. */
-static char *tell_order(struct asking *own, const char *path, const char *what) {
+static char *tell_order_or_stop(struct asking *own, const char *path, const char *what) {
     const char *interface = own->options->interface;
     char order[QUESTION_ROOM], *answer;
     if (snprintf(order, sizeof order, "%s %s\n", what, interface) >= (int)sizeof order || strchr(interface, '\n'))
@@ -179,7 +179,7 @@ static int order_daemon(struct asking *own) {
     const char *what = own->options->order, *path = find_daemon(own);
     bool waits = true;
     while (waits) {
-        char *answer = tell_order(own, path, what);
+        char *answer = tell_order_or_stop(own, path, what);
         if (!answer) return REFUSED;
         waits = strncmp(answer, "wait: ", 6) == 0;
         if (!waits) print_shown(answer, strlen(answer));

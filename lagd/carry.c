@@ -56,7 +56,7 @@ void suspect_aggregator(struct carry *carry, uint32_t aggregator) {
 
 /* Whether the active aggregator stays where another one has as many ports: the peer has it, too, since its frames come there. Ends that differ
  * come together, if both send or neither does: neither has frames of the other one then, and both take the one with the least group. */
-bool hears_peer(const struct plane *plane) {
+bool heard_peer_lately(const struct plane *plane) {
     const struct carry *carry = plane->carry;
     return carry->heard_at != 0 && carry->time - carry->heard_at < HEARD;
 }

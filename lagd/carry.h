@@ -99,7 +99,7 @@ bool ask_state(struct process *process, struct niw_system *system, uint16_t aggr
 bool ask_ports(struct process *process, struct niw_system *system, uint16_t aggregator, uint16_t *ports) MUST_USE;
 bool is_held(const struct niw_assignment *state);
 bool is_busy(const struct carry *carry, const struct conversation *conversation);
-bool hears_peer(const struct plane *plane);
+bool heard_peer_lately(const struct plane *plane);
 void forget_heard(struct carry *carry);
 void leave_previous(struct carry *carry);
 void choose_ports(struct plane *plane);

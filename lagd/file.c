@@ -90,11 +90,11 @@ static int parse_pair(void *given, const char *section UNUSED, const char *name,
 }
 
 /* Names the bundle for its file: what stands before .conf. */
-static void name_bundle(const char *path, struct settings *wanted) {
-    const char *slash = strrchr(path, '/'), *name = slash ? slash + 1 : path;
-    size_t length = strlen(name);
-    if (length > 5 && strcmp(name + length - 5, ".conf") == 0) length -= 5;
-    snprintf(wanted->name, sizeof wanted->name, "%.*s", (int)length, name);
+static void name_bundle(const char *path, char name[static NAME_ROOM]) {
+    const char *slash = strrchr(path, '/'), *file = slash ? slash + 1 : path;
+    size_t length = strlen(file);
+    if (length > 5 && strcmp(file + length - 5, ".conf") == 0) length -= 5;
+    snprintf(name, NAME_ROOM, "%.*s", (int)length, file);
 }
 
 /* Opens a file, if it is a regular one of no more than LONGEST_FILE octets; else NULL, and a line. */
@@ -123,7 +123,7 @@ bool read_bundle_file(struct process *process, const char *path, struct settings
     CLOSED_STREAM FILE *file = open_file(process, path);
     struct reading reading = {.process = process, .file = file, .path = path, .settings = wanted};
     *wanted = usual_settings();
-    name_bundle(path, wanted);
+    name_bundle(path, wanted->name);
     if (!file) return false;
     ini_allow_multiline = false;
     ini_allow_inline_comments = false;

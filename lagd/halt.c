@@ -45,8 +45,8 @@ void follow_device(struct protocol *protocol, bool up) {
 }
 
 /* The device was opened. Where no port goes on, no peer has to be told. */
-void note_halt_at_start(struct halt *own, const struct device *device, bool resuming) {
-    own->down = device->index != 0 && !is_tap_up(device);
+void note_halt_at_start(struct halt *own, bool down, bool resuming) {
+    own->down = down;
     own->silent = own->down && !resuming;
 }
 

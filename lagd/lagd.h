@@ -512,7 +512,7 @@ void answer_order(struct protocol *protocol, char *order, char answer[static ORD
 
 /* halt.c */
 void follow_device(struct protocol *protocol, bool up);
-void note_halt_at_start(struct halt *own, const struct device *device, bool resuming);
+void note_halt_at_start(struct halt *own, bool down, bool resuming);
 void halt_if_down(struct protocol *protocol);
 void pass_halt_tick(struct protocol *protocol);
 

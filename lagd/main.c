@@ -250,7 +250,7 @@ static int run_daemon(struct lagd *lagd, const struct options *options) {
     lagd->process.resuming = has_carried_links(&lagd->inherited);
     if (lagd->process.inherited->others && !lagd->plane.carrying->keeps_members) release_former_members(&lagd->plane);
     CALL(lagd->plane.carrying->open, &lagd->plane);
-    note_halt_at_start(&lagd->protocol.halt, &lagd->device, lagd->process.resuming);
+    note_halt_at_start(&lagd->protocol.halt, lagd->device.index != 0 && !is_tap_up(&lagd->device), lagd->process.resuming);
     need(await_input(lagd->process.epoll_file, open_changes(&lagd->protocol), CHANGES), "epoll");
     open_status(&lagd->process, options->folder);
     int clock = open_clock();

@@ -286,7 +286,7 @@ static const char *try_interface(struct process *process, const struct ports *po
 }
 
 /* Adds a port by INTERFACE[:WORD,..]; answers what is wrong, of which some is written into `room`, or NULL, and its number. */
-static const char *add_by_words(struct protocol *protocol, char *text, uint16_t *port, char room[static ORDER_ROOM]) {
+static const char *add_or_keep_by_words(struct protocol *protocol, char *text, uint16_t *port, char room[static ORDER_ROOM]) {
     struct settings wanted = {.port_count = 0};
     struct port_settings *settings = &wanted.ports[0];
     const char *found, *expected = read_port(&protocol->process->words, text, &wanted, &found);
@@ -335,7 +335,7 @@ void answer_order(struct protocol *protocol, char *order, char answer[static ORD
     const char *fault = NULL;
     uint16_t port = link ? link->settings.number : 0;
     if (strncmp(order, "add ", 4) == 0) {
-        fault = add_by_words(protocol, name, &port, room);
+        fault = add_or_keep_by_words(protocol, name, &port, room);
     } else if (strncmp(order, "removed ", 8) == 0) {
         done = link == NULL;
         if (link && !link->leaving) fault = "it stays in the bundle";

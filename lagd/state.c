@@ -99,7 +99,7 @@ static void keep_file(struct state *own, FILE *file) {
 }
 
 /* Removes what processes that were killed wrote of a copy: one that still hangs on the disk finds nothing then to put in the place of another. */
-static void remove_new(const struct state *own) {
+static void remove_new_copies(const struct state *own) {
     size_t length = strlen(own->copy_name);
     int fd = openat(own->copy_folder, ".", O_RDONLY | O_DIRECTORY | O_CLOEXEC), writer, end = 0;
     DIR *listed = fd < 0 ? NULL : fdopendir(fd);
@@ -207,7 +207,7 @@ static _Noreturn void run_copier(struct state *own, int told, pid_t daemon) {
 #endif
     sigemptyset(&none);
     sigprocmask(SIG_SETMASK, &none, NULL);
-    remove_new(own);
+    remove_new_copies(own);
     if (wanted && !replace_file(own, own->copy_folder, own->copy_name, true)) copied.written = last_fault();
     if (!wanted || copied.written < 0) copied.removed = remove_file(own->copy_folder, own->copy_name, true);
     (void)!write(told, &copied, sizeof copied);

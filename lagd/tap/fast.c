@@ -27,7 +27,7 @@ static int load_or_stop(const struct settings *settings, const char *name, const
 }
 
 /* Has a program run at the TAP device; answers what keeps it there. */
-static int keep_program(struct process *process, int device, const char *name, const struct fast_maps *maps, bool egress) {
+static int run_program_or_stop(struct process *process, int device, const char *name, const struct fast_maps *maps, bool egress) {
     CLOSED_FILE int program = load_or_stop(process->settings, name, maps);
     int opened = attach_stored(&process->store, name, program, device, egress);
     if (opened < 0) stop(REFUSED, "fast: no program of an interface, which Linux has from 6.6 on", strerror(-opened));
@@ -75,8 +75,8 @@ static void start_fast(struct tap_plane *tap) {
     begin_tables(own, tap->ports->count);
     if (own->host->mac == 0) memcpy(&own->host->mac, tap->settings->config.mac, ETH_ALEN);
     own->receiver = load_or_stop(tap->settings, "receiver", &maps);
-    own->handover = keep_program(tap->process, device, "handover", &maps, false);
-    own->sender = keep_program(tap->process, device, "sender", &maps, true);
+    own->handover = run_program_or_stop(tap->process, device, "handover", &maps, false);
+    own->sender = run_program_or_stop(tap->process, device, "sender", &maps, true);
 }
 
 /* The kernel passes nothing on any more by this row. */

@@ -407,7 +407,7 @@ void fit_queue(const struct plane *plane, const struct link *link) {
 }
 
 /* Has one processor take what comes at an interface; answers why the kernel may not pass it on, or NULL: a marker would overtake data. */
-static const char *prepare_for_fast(const struct link *link, const struct guard *guard) {
+static const char *steer_for_fast(const struct link *link, const struct guard *guard) {
     struct ethtool_channels queues;
     if (link->stacked) return STACKED;
     if (!guard->spread && read_channels(link->index, &queues) > 1) return "it has several queues";
@@ -429,7 +429,7 @@ void keep_from_stack(struct tap_plane *tap, const struct link *link, struct guar
 /* Has the kernel pass on what goes and comes at a member, where it may; a line says why not. */
 void run_fast_programs(struct tap_plane *tap, const struct link *link, struct guard *guard) {
     guard->unusual = guard->spread && !choose_usual_queues(&tap->usual_queues, tap->members, tap->ports->count, guard->queues);
-    const char *fault = prepare_for_fast(link, guard);
+    const char *fault = steer_for_fast(link, guard);
     if (!fault) guard->opened = open_fast_receiver(&tap->process->store, &tap->fast, tap->ports, link);
     guard->fast = guard->opened >= 0;
     if (guard->fast) return;

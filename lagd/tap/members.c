@@ -465,7 +465,7 @@ const struct carrying TAP_DEVICE = {
     .give_carrier = give_tap_carrier, .settle_mtu = settle_tap_mtu, .add = open_member, .remove = close_member, .renew = renew_for_discipline,
     .move = move_member, .follow_mtu = follow_member_mtu, .follow_speed = follow_speed, .can_empty = can_empty, .empty = empty_port,
     .drain = drain_member, .lose = lose_data, .forget = forget_member, .send_marker = send_new_marker, .note_response = note_response,
-    .settle = settle_frames, .tick = pass_tick_of_frames, .keeps_aggregator = hears_peer, .frames_heard = frames_handed_up,
+    .settle = settle_frames, .tick = pass_tick_of_frames, .keeps_aggregator = heard_peer_lately, .frames_heard = frames_handed_up,
     .tell_host = tell_speed_and_carrier, .resume = resume_conversations, .go_on = settle_carry, .member_of = fast_member_of,
     .end_resuming = release_former_members, .frames_waiting = count_frames_waiting, .check = check_tap, .show = show_carry,
     .show_member = show_member, .show_markers = show_markers, .show_waiting = show_frames_waiting, .end_count = CARRY_COUNTS,

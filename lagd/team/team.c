@@ -253,7 +253,7 @@ static int check_team(struct process *process, struct plane *plane, const struct
 const struct carrying TEAM_DEVICE = {
     .open = open_team, .end = end_team_plane, .lose_device = lose_device, .leave = leave_team, .give_carrier = give_team_carrier,
     .add = open_team_port, .remove = close_team_port, .see_port = see_team_port, .settle = settle_team, .tick = pass_tick_of_team,
-    .keeps_aggregator = hears_peer, .frames_heard = team_frames_received, .resume = resume_conversations, .go_on = choose_ports,
+    .keeps_aggregator = heard_peer_lately, .frames_heard = team_frames_received, .resume = resume_conversations, .go_on = choose_ports,
     .member_of = bucket_member_of, .end_resuming = release_former_members, .check = check_team, .show = show_carry, .show_member = show_member,
     .show_waiting = show_waiting_buckets, .first_count = MOVES, .end_count = WOKEN + 1, .administers = true, .nameless = "",
 };

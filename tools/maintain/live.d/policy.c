@@ -279,7 +279,7 @@ NOTHING(set_speed, struct device *device, uint32_t megabits)
 ANSWERS(uint16_t count_links, PORTS, const struct ports *ports)
 NOTHING(tell_watchers_of, struct process *process, const struct control *control, const struct link *link)
 /* The plane: frames come here alone, and members have one queue. */
-static const struct carrying FRAMES = {.settle = settle_frames, .tick = pass_tick_of_frames, .keeps_aggregator = hears_peer,
+static const struct carrying FRAMES = {.settle = settle_frames, .tick = pass_tick_of_frames, .keeps_aggregator = heard_peer_lately,
     .frames_heard = frames_handed_up, .tell_host = tell_speed_and_carrier, .go_on = settle_carry,
     .note_response = note_response};
 static const struct passing BY_DAEMON = {0};
