@@ -48,11 +48,19 @@ def hand_over(part: Part, ours: Daemon, between: Callable[[], None] = lambda: No
     return again
 
 
+def said(daemon: Daemon) -> str:
+    """What a daemon has printed, once it prints no more."""
+    text = ""
+    while text != (text := daemon.printed()):
+        time.sleep(0.5)
+    return text
+
+
 def goes_on(part: Part) -> None:
     """By SIGUSR1, and by SIGKILL, each time with no line of the peer; twice in a row, too."""
     ours, theirs = pair_up(part, "two daemons: both links come to distribute")
     time.sleep(1.5)
-    lines = theirs.printed()
+    lines = said(theirs)
     for by in signal.SIGUSR1, signal.SIGUSR1, signal.SIGKILL:
         ours = hand_over(part, ours, by=by)
         check(WENT_ON in ours.printed() and ours.distributes("a0", "a1"), f"after {by.name} the next daemon distributes at once", ours.printed(), ours.text())
@@ -70,7 +78,7 @@ def in_a_row(part: Part) -> None:
     """A daemon that hands over before it has sent an LACPDU, of which the peer wants one each 30 s."""
     ours, theirs = pair_up(part, "two daemons: both links come to distribute", theirs=["--timeout", "long"])
     time.sleep(1.5)
-    lines = theirs.printed()
+    lines = said(theirs)
     for turn in range(3):
         ours = hand_over(part, ours)
         check(WENT_ON in ours.printed() and theirs.printed() == lines, f"handover {turn + 1}: the peer sees nothing", ours.printed(), theirs.printed())
@@ -89,7 +97,7 @@ def comes_late(part: Part) -> None:
     options = ["--timeout", "long", "--state-dir", kept]
     ours, theirs = pair_up(part, "long timeouts: both links come to distribute", ours=options, theirs=["--timeout", "long"])
     time.sleep(1.5)
-    lines = theirs.printed()
+    lines = said(theirs)
     sent = [theirs.count(name, "lacpdus_sent") for name in ("b0", "b1")]
     ours = hand_over(part, ours, lambda: grow_old(ours), options=options)
     check(WENT_ON in ours.printed(), f"{REST} s before its timeout the next daemon goes on", ours.printed())
@@ -182,7 +190,7 @@ def things_change(part: Part) -> None:
     time.sleep(1.5)
     second = part.refused("23", "32768,02:00:00:00:00:aa", "a0", "a1")
     check(second[0] == 1 and "another lagd has" in second[1], "a second daemon beside one that runs is refused", second)
-    lines = theirs.printed()
+    lines = said(theirs)
     time.sleep(TIMEOUT + 1)
     check(theirs.printed() == lines, "and the peer saw nothing of it", theirs.printed())
     ours = hand_over(part, ours, names=("a0",))
@@ -248,7 +256,7 @@ def outlives_boot(part: Part) -> None:
     ]
     for what, text, change in rows:
         both_up(ours, theirs, "both links come to distribute")
-        lines = theirs.printed()
+        lines = said(theirs)
         ours = boots(part, ours, kept, change)
         check(text in ours.printed(), f"a state {what}: a line says so", ours.printed())
         if text != WENT_ON:
@@ -282,7 +290,7 @@ def outlives_crash(part: Part) -> None:
     check(within(COPIED, lambda: carried_in(copy) == ["1", "1"]), "a copy is kept while the daemon runs", os.listdir(kept))
     first = os.stat(copy).st_ino
     check(within(RENEWED, lambda: os.path.exists(copy) and os.stat(copy).st_ino != first), "it is renewed", os.listdir(kept))
-    lines = theirs.printed()
+    lines = said(theirs)
     ours = boots(part, ours, kept, by=signal.SIGKILL)
     check(WENT_ON in ours.printed(), "the first daemon after a crash of the machine goes on", ours.printed())
     time.sleep(TIMEOUT)
@@ -371,7 +379,7 @@ def frozen_disk(part: Part, disk: str) -> None:
     options = ["--timeout", "long", "--state-dir", kept]
     ours, theirs = pair_up(part, "both links come to distribute", ours=options, theirs=["--timeout", "long"])
     check(within(COPIED, lambda: carried_in(f"{kept}/a0.state") == ["1", "1"]), "there is a copy", os.listdir(kept))
-    lines = theirs.printed()
+    lines = said(theirs)
     if command("fsfreeze", "-f", disk).returncode:
         raise Skipped("no fsfreeze")
     text = "its disk does not answer"
