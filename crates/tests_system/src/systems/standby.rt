@@ -1,11 +1,14 @@
 use crate::systems::{
-    Case, DATA, Given, ONE, PortFacts, Row, Side, TWO, end, mac, marker, plays_cases,
+    Case, DATA, Given, ONE, PortFacts, Row, Side, TWO, configured, end, joined, mac, marker, plays,
+    plays_cases,
 };
 use bitflags::Flags;
 use lagsystem::{
     AggId, Choice, Group, MuxState, PortStatus, ReceiveState, Received, State, SystemFault,
 };
 use slowpdu::{MarkerKind, frame};
+use std::alloc::Global;
+use std::process::Abort;
 
 const SELECTED: Choice = Choice::Selected(AggId(1));
 
@@ -61,11 +64,22 @@ fn second_on_standby() -> PortFacts {
     }
 }
 
-/// In the last case the group of port 1 stays the same, but its partner has another port identifier: it leaves and chooses again, after
-/// the port that was STANDBY.
+/// Plays these rows, list by list, behind those of ONE_UP.
+fn plays_after_one(
+    rt: &impl Abort,
+    alloc: Global,
+    case: &str,
+    lists: &[&[Row<'_>]],
+) -> Result<(), SystemFault> {
+    let given = configured(alloc, &LIMITED)?;
+    let mut rows = joined(alloc, &[&ONE_UP])?;
+    rows.append(&mut joined(alloc, lists)?)?;
+    plays(rt, alloc, given, case, &rows)
+}
+
 #[test]
-fn standby_ports_carry_no_frames_and_choose_first(rt: HostRuntime) -> Result<(), SystemFault> {
-    let carries = [
+fn a_standby_port_carries_no_frames(rt: HostRuntime) -> Result<(), SystemFault> {
+    let rows = [
         Row::Shows(2, second_on_standby()),
         Row::Sends(1, Side::Ranked(1, 0x3f), Side::Of(2, 1, 1, 0x0d)),
         Row::Silent(2),
@@ -74,27 +88,36 @@ fn standby_ports_carry_no_frames_and_choose_first(rt: HostRuntime) -> Result<(),
         Row::Hears(1, &DATA, Received::Up(AggId(1))),
         Row::Hears(2, &DATA, Received::Dropped),
     ];
+    plays_after_one(&rt, rt.alloc(), "carries", &[&rows])
+}
+
+#[test]
+fn a_standby_port_answers_markers(rt: HostRuntime) -> Result<(), SystemFault> {
     let asked = frame(mac(9), &marker(MarkerKind::Information, 5, 7, 77).encode());
     let answer = frame(mac(2), &marker(MarkerKind::Response, 5, 7, 77).encode());
-    let answers = [
+    let rows = [
         Row::Links(&[1, 2]),
         Row::RankedJoins(2, &[1, 2]),
         Row::Chosen(2, STANDBY),
         Row::Hears(2, &asked, Received::Respond(answer)),
     ];
+    let given = configured(rt.alloc(), &PAIR_LIMITED)?;
+    plays(&rt, rt.alloc(), given, "answers", &rows)
+}
+
+/// The group of port 1 stays the same, but its partner has another port identifier: it leaves and chooses again, after the port that
+/// was STANDBY.
+#[test]
+fn standby_ports_come_before_ports_that_choose(rt: HostRuntime) -> Result<(), SystemFault> {
     let mut renamed = end(2, 1, 1, 0x0d);
     renamed.port.priority = 127;
-    let chooses = [
+    let rows = [
         Row::Takes(1, Side::Exactly(renamed), Side::Ranked(1, 0x3f)),
         Row::Chosen(1, STANDBY),
         Row::Mux(1, MuxState::Waiting),
     ];
-    let cases: [Case<'_>; 3] = [
-        ("carries", LIMITED, &[&ONE_UP, &carries]),
-        ("answers", PAIR_LIMITED, &[&answers]),
-        ("chooses", LIMITED, &[&ONE_UP, &chooses, &PROMOTED]),
-    ];
-    plays_cases(&rt, rt.alloc(), &cases)
+    let lists: [&[Row<'_>]; 2] = [&rows, &PROMOTED];
+    plays_after_one(&rt, rt.alloc(), "chooses", &lists)
 }
 
 const DOWN: [Row<'static>; 5] = [
