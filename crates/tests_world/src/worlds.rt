@@ -6,6 +6,7 @@ mod conversations;
 mod given;
 mod joined;
 mod memory;
+mod planned;
 mod playing;
 mod refusals;
 mod restarts;

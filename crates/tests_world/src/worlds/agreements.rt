@@ -73,7 +73,7 @@ fn agreements_of_one_cable(rt: HostRuntime) -> Result<(), WorldFault> {
     play_after(&rt, rt.alloc(), (ONE_SHORT, ""), &ALONE)
 }
 
-const ONE_CABLE_ROW: Row = Row {
+pub(crate) const ONE_CABLE_ROW: Row = Row {
     setting: ONE_SHORT,
     first: ONE_CABLE,
     rest: "",
@@ -82,9 +82,13 @@ const ONE_CABLE_ROW: Row = Row {
 };
 
 #[test]
-fn two_ends_agree_event_by_event_and_in_runs(rt: HostRuntime) -> Result<(), WorldFault> {
+fn two_ends_agree_event_by_event(rt: HostRuntime) -> Result<(), WorldFault> {
     steps(&rt, rt.alloc(), &ONE_CABLE_ROW, None)?;
-    steps(&rt, rt.alloc(), &ONE_CABLE_ROW, Some(8))?;
+    steps(&rt, rt.alloc(), &ONE_CABLE_ROW, Some(8))
+}
+
+#[test]
+fn two_ends_agree_in_one_run_and_in_two(rt: HostRuntime) -> Result<(), WorldFault> {
     for cut in [0, 7] {
         for limit in [None, Some(8)] {
             runs(&rt, rt.alloc(), &ONE_CABLE_ROW, limit, cut)?;

@@ -38,6 +38,11 @@ deliver 1 2 => Took
     ),
 ];
 
+#[test]
+fn events_of_a_link_that_is_up(rt: HostRuntime) -> Result<(), WorldFault> {
+    play_after(&rt, rt.alloc(), (TWO_LONG, LINK_UP), &BEHIND)
+}
+
 /// Nothing is on a cable.
 const NOTHING: &str = "deliver 1 1 => Empty
 lose 1 2 => Empty
@@ -97,6 +102,18 @@ emit 2 2 => lacpdu 3d
 deliver 1 1 => Took
 ";
 
+/// Plays the events of a cable between ports of unequal numbers.
+#[test]
+fn a_cable_joins_ports_of_unequal_numbers(rt: HostRuntime) -> Result<(), WorldFault> {
+    let alloc = rt.alloc();
+    let mut world = world_of(&rt, alloc, CROSSING, None, modulo, modulo)?;
+    plays_lines(&rt, alloc, &mut world, CROSSING, CROSSED)?;
+    tells(&rt, alloc, &world, "cable 1 => Some(NotBoth)")?;
+    plays_lines(&rt, alloc, &mut world, CROSSING, CROSSED_UP)?;
+    tells(&rt, alloc, &world, "cable 1 => Some(Same)")?;
+    Ok(())
+}
+
 /// The direction of a cable to system 1 holds one frame, that to system 2 two.
 const FILLING: &str = "offer 1 1 0200000000200200000000100800 => port 1 serial 0
 offer 1 1 0200000000200200000000100800 => port 1 serial 1
@@ -154,10 +171,8 @@ flow 2 2 48 => 1 []
 };
 
 #[test]
-fn events_of_a_link_that_is_up_and_of_two_aggregators(rt: HostRuntime) -> Result<(), WorldFault> {
-    play_after(&rt, rt.alloc(), (TWO_LONG, LINK_UP), &BEHIND)?;
-    plays(&rt, rt.alloc(), &APART_ROW)?;
-    Ok(())
+fn each_aggregator_has_its_conversations(rt: HostRuntime) -> Result<(), WorldFault> {
+    plays(&rt, rt.alloc(), &APART_ROW)
 }
 
 /// One cable between a port of system 1 with values that no other test has and a port of system 2.
@@ -173,16 +188,9 @@ cable = [{ ends = [1, 1] }]
 const AS_IT_IS: &str = "configure 1 1 5 7 individual => Configured(false)
 ";
 
+/// Gives the port the values that it has. The replies before are not looked at.
 #[test]
-fn unequal_ports_and_unchanged_values_agree(rt: HostRuntime) -> Result<(), WorldFault> {
-    // Plays the events of a cable between ports of unequal numbers.
-    let alloc = rt.alloc();
-    let mut world = world_of(&rt, alloc, CROSSING, None, modulo, modulo)?;
-    plays_lines(&rt, alloc, &mut world, CROSSING, CROSSED)?;
-    tells(&rt, alloc, &world, "cable 1 => Some(NotBoth)")?;
-    plays_lines(&rt, alloc, &mut world, CROSSING, CROSSED_UP)?;
-    tells(&rt, alloc, &world, "cable 1 => Some(Same)")?;
-    // Gives the port the values that it has. The replies before are not looked at.
+fn the_values_of_a_configuration_are_no_change(rt: HostRuntime) -> Result<(), WorldFault> {
     let alloc = rt.alloc();
     let mut world = world_of(&rt, alloc, ODD, None, modulo, modulo)?;
     runs_lines(&rt, alloc, &mut world, ODD, ONE_CABLE)?;

@@ -120,6 +120,11 @@ flow 1 1 50 => 1 [0]
     ),
 ];
 
+#[test]
+fn what_either_system_does(rt: HostRuntime) -> Result<(), WorldFault> {
+    play_after(&rt, rt.alloc(), (TWO_SHORT, UP), &BOTH_UP)
+}
+
 const RESPONSE_LOST_ROW: Row = Row {
     setting: TWO_SHORT,
     first: UP,
@@ -138,6 +143,11 @@ flow 2 1 48 => 1 [0]
 ",
 };
 
+#[test]
+fn a_full_cable_hands_back_a_response(rt: HostRuntime) -> Result<(), WorldFault> {
+    runs(&rt, rt.alloc(), &RESPONSE_LOST_ROW, Some(1), 0)
+}
+
 /// An LACPDU of either system says which change of its port it knows of.
 const STAMPED_ROW: Row = Row {
     setting: TWO_SHORT,
@@ -151,11 +161,8 @@ cable 2 => Some(Same)
 };
 
 #[test]
-fn what_either_system_does(rt: HostRuntime) -> Result<(), WorldFault> {
-    play_after(&rt, rt.alloc(), (TWO_SHORT, UP), &BOTH_UP)?;
-    runs(&rt, rt.alloc(), &RESPONSE_LOST_ROW, Some(1), 0)?;
-    plays(&rt, rt.alloc(), &STAMPED_ROW)?;
-    Ok(())
+fn an_lacpdu_has_the_change_count_of_its_own_port(rt: HostRuntime) -> Result<(), WorldFault> {
+    plays(&rt, rt.alloc(), &STAMPED_ROW)
 }
 
 /// A port of one cable that carries gets another value, and its own again, while an LACPDU that names its own is on the cable: equal

@@ -50,6 +50,11 @@ flow 1 1 48 => 1 []
     ),
 ];
 
+#[test]
+fn cuts_and_restarts(rt: HostRuntime) -> Result<(), WorldFault> {
+    play_after(&rt, rt.alloc(), (TWO_LONG, COMING_UP), &BOTH_UP)
+}
+
 const CONFIGURED_ROW: Row = Row {
     setting: INDIVIDUAL,
     first: "sense 1 1 => Sensed(true)
@@ -68,10 +73,18 @@ flow 1 1 49 => 1 []
 ",
 };
 
+#[test]
+fn a_configure_holds_the_conversations_of_its_port(rt: HostRuntime) -> Result<(), WorldFault> {
+    plays(&rt, rt.alloc(), &CONFIGURED_ROW)
+}
+
 /// Two cables between ports with Long Timeout, and one marker identifier left.
 const LAST_MARKER: &str = r#"
 system = [
-    { mac = "02-00-00-00-00-01", aggregators = [1], first_marker = 4294967295, port = [{ number = 1, key = 1, short = false }, { number = 2, key = 1, short = false }] },
+    { mac = "02-00-00-00-00-01", aggregators = [1], first_marker = 4294967295, port = [
+        { number = 1, key = 1, short = false },
+        { number = 2, key = 1, short = false },
+    ] },
     { mac = "02-00-00-00-00-02", aggregators = [1], port = [{ number = 1, key = 1, short = false }, { number = 2, key = 1, short = false }] },
 ]
 cable = [{ ends = [1, 1] }, { ends = [2, 2] }]
@@ -102,9 +115,6 @@ flow 1 1 50 => 2 [1]
 };
 
 #[test]
-fn cuts_restarts_and_changes_of_two_links(rt: HostRuntime) -> Result<(), WorldFault> {
-    play_after(&rt, rt.alloc(), (TWO_LONG, COMING_UP), &BOTH_UP)?;
-    plays(&rt, rt.alloc(), &CONFIGURED_ROW)?;
-    plays(&rt, rt.alloc(), &SPENT_ROW)?;
-    Ok(())
+fn no_marker_follows_the_last_identifier(rt: HostRuntime) -> Result<(), WorldFault> {
+    plays(&rt, rt.alloc(), &SPENT_ROW)
 }

@@ -39,6 +39,11 @@ fn a_conversation_moves_behind_a_marker(rt: HostRuntime) -> Result<(), WorldFaul
     Ok(())
 }
 
+#[test]
+fn a_conversation_moves_event_by_event(rt: HostRuntime) -> Result<(), WorldFault> {
+    steps(&rt, rt.alloc(), &MOVES_ROW, Some(8))
+}
+
 /// Between ports with Long Timeout that distribute.
 const BOTH_UP: [After; 7] = [
     // A late response releases nothing.
@@ -140,7 +145,12 @@ move 1 1 304 2 => Refused(NotAssigned)
     ),
 ];
 
-const FULL_ROW: Row = Row {
+#[test]
+fn conversations_of_two_links(rt: HostRuntime) -> Result<(), WorldFault> {
+    play_after(&rt, rt.alloc(), (TWO_LONG, COMING_UP), &BOTH_UP)
+}
+
+pub(crate) const FULL_ROW: Row = Row {
     setting: TWO_LONG,
     first: COMING_UP,
     rest: "offer 1 1 0200000000200200000000100800 => port 1 serial 0
@@ -154,7 +164,12 @@ deliver 1 2 => Empty
 ",
 };
 
-const NARROW_ROW: Row = Row {
+#[test]
+fn what_a_full_cable_hands_back_is_lost(rt: HostRuntime) -> Result<(), WorldFault> {
+    runs(&rt, rt.alloc(), &FULL_ROW, Some(2), 0)
+}
+
+pub(crate) const NARROW_ROW: Row = Row {
     setting: TWO_LONG,
     first: COMING_UP,
     rest: "offer 1 1 0200000000200200000000100800 => port 1 serial 0
@@ -175,19 +190,17 @@ deliver 2 2 => Up(AggId(1))
 };
 
 #[test]
-fn a_conversation_moves_event_by_event_and_on_full_cables(
-    rt: HostRuntime,
-) -> Result<(), WorldFault> {
-    steps(&rt, rt.alloc(), &MOVES_ROW, Some(8))?;
-    runs(&rt, rt.alloc(), &FULL_ROW, Some(2), 0)?;
-    runs(&rt, rt.alloc(), &NARROW_ROW, Some(1), 0)?;
-    Ok(())
+fn a_full_cable_hands_back_a_marker(rt: HostRuntime) -> Result<(), WorldFault> {
+    runs(&rt, rt.alloc(), &NARROW_ROW, Some(1), 0)
 }
 
 /// `TWO_LONG`, with 4096 conversations in each aggregator of system 1.
 const WIDE: &str = r#"
 system = [
-    { mac = "02-00-00-00-00-01", aggregators = [1], conversations = 4096, port = [{ number = 1, key = 1, short = false }, { number = 2, key = 1, short = false }] },
+    { mac = "02-00-00-00-00-01", aggregators = [1], conversations = 4096, port = [
+        { number = 1, key = 1, short = false },
+        { number = 2, key = 1, short = false },
+    ] },
     { mac = "02-00-00-00-00-02", aggregators = [1], port = [{ number = 1, key = 1, short = false }, { number = 2, key = 1, short = false }] },
 ]
 cable = [{ ends = [1, 1] }, { ends = [2, 2] }]
@@ -224,10 +237,6 @@ flow 2 1 304 => 0 []
 ];
 
 #[test]
-fn conversations_of_two_links_have_the_numbers_of_their_system(
-    rt: HostRuntime,
-) -> Result<(), WorldFault> {
-    play_after(&rt, rt.alloc(), (TWO_LONG, COMING_UP), &BOTH_UP)?;
-    play_after(&rt, rt.alloc(), (WIDE, COMING_UP), &WIDE_FIRST)?;
-    Ok(())
+fn each_system_numbers_frames_by_its_own_count(rt: HostRuntime) -> Result<(), WorldFault> {
+    play_after(&rt, rt.alloc(), (WIDE, COMING_UP), &WIDE_FIRST)
 }

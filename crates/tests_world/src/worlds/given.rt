@@ -41,7 +41,10 @@ cable = [{ ends = [1, 1] }, { ends = [2, 2] }]
 /// Two cables between ports with Short Timeout; those of system 1 are Individual.
 pub(crate) const INDIVIDUAL: &str = r#"
 system = [
-    { mac = "02-00-00-00-00-01", aggregators = [1], port = [{ number = 1, key = 1, aggregatable = false, short = true }, { number = 2, key = 1, aggregatable = false, short = true }] },
+    { mac = "02-00-00-00-00-01", aggregators = [1], port = [
+        { number = 1, key = 1, aggregatable = false, short = true },
+        { number = 2, key = 1, aggregatable = false, short = true },
+    ] },
     { mac = "02-00-00-00-00-02", aggregators = [1], port = [{ number = 1, key = 1, short = true }, { number = 2, key = 1, short = true }] },
 ]
 cable = [{ ends = [1, 1] }, { ends = [2, 2] }]

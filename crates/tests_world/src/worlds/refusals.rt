@@ -76,6 +76,14 @@ fn refuses(rt: &impl Abort, alloc: Global, place: usize, given: &Given) -> Resul
     Ok(())
 }
 
+#[test]
+fn every_reason_to_make_no_world(rt: HostRuntime) -> Result<(), WorldFault> {
+    for (place, given) in GIVEN.iter().enumerate() {
+        refuses(&rt, rt.alloc(), place, given)?;
+    }
+    Ok(())
+}
+
 /// One direction of a cable, with or without an item.
 fn direction(alloc: Global, full: bool) -> Result<AnyCable, WorldFault> {
     let mut direction = empty_direction(alloc, None)?;
@@ -117,15 +125,11 @@ fn compare_line_refusal(
 }
 
 #[test]
-fn every_reason_to_make_no_world(rt: HostRuntime) -> Result<(), WorldFault> {
-    for (place, given) in GIVEN.iter().enumerate() {
-        refuses(&rt, rt.alloc(), place, given)?;
-    }
+fn a_line_with_an_item_is_refused(rt: HostRuntime) -> Result<(), WorldFault> {
     let wanted = Some(WorldFault::BadConfig(BadWorld::Lines));
     compare_line_refusal(&rt, rt.alloc(), (false, false), None)?;
     compare_line_refusal(&rt, rt.alloc(), (true, false), wanted)?;
-    compare_line_refusal(&rt, rt.alloc(), (false, true), wanted)?;
-    Ok(())
+    compare_line_refusal(&rt, rt.alloc(), (false, true), wanted)
 }
 
 /// Events of which each names a system or a cable that does not exist, and why they are refused. No script has them.
@@ -157,6 +161,18 @@ fn events_not_there(alloc: Global) -> [(Event, WorldFault); 17] {
     ]
 }
 
+/// Plays each of these events by `step` in one world.
+#[test]
+fn events_of_what_does_not_exist(rt: HostRuntime) -> Result<(), WorldFault> {
+    let alloc = rt.alloc();
+    let mut world = world_of(&rt, alloc, ONE_SHORT, None, modulo, modulo)?;
+    for (place, (event, fault)) in events_not_there(alloc).iter().enumerate() {
+        let came = step_of(&mut world, event);
+        same_at(&rt, "row", place, &came, &Err(*fault));
+    }
+    Ok(())
+}
+
 /// The third event names a cable that does not exist.
 const STOPPING: [Event; 4] = [
     Event::Tick(1, 0),
@@ -166,23 +182,13 @@ const STOPPING: [Event; 4] = [
 ];
 
 #[test]
-fn events_of_what_does_not_exist_stop_a_run(rt: HostRuntime) -> Result<(), WorldFault> {
-    // Plays each of these events by `step` in one world.
-    let alloc = rt.alloc();
-    let mut world = world_of(&rt, alloc, ONE_SHORT, None, modulo, modulo)?;
-    for (place, (event, fault)) in events_not_there(alloc).iter().enumerate() {
-        let came = step_of(&mut world, event);
-        same_at(&rt, "row", place, &came, &Err(*fault));
-    }
+fn a_run_stops_at_the_first_fault(rt: HostRuntime) -> Result<(), WorldFault> {
     let alloc = rt.alloc();
     let mut world = world_of(&rt, alloc, ONE_SHORT, None, modulo, modulo)?;
     let stop = RunFault {
         done: 2,
         fault: WorldFault::NoCable,
     };
-    same(&rt, "its number", &stop.fault.number(), &1);
-    let first = WorldFault::first_of_event(true, false, true);
-    same(&rt, "the first cause", &first, &Some(WorldFault::NoSystem));
     let stopped = run_of(&mut world, &STOPPING).err();
     same(&rt, "run", &stopped, &Some(stop));
     let sensed = step_of(&mut world, &Event::Sense(1, 1));
@@ -291,4 +297,37 @@ fn readers_of_what_does_not_exist(rt: HostRuntime) -> Result<(), WorldFault> {
     }
     tells_systems(&rt, &world);
     Ok(())
+}
+
+const NUMBERS: [(WorldFault, u8); 5] = [
+    (WorldFault::NoCable, 1),
+    (WorldFault::NoSystem, 2),
+    (WorldFault::Spent, 4),
+    (WorldFault::NoMemory, 5),
+    (WorldFault::BadConfig(BadWorld::Lines), 6),
+];
+
+#[test]
+fn each_fault_has_its_number(rt: HostRuntime) {
+    for (place, (fault, number)) in NUMBERS.iter().enumerate() {
+        same_at(&rt, "row", place, &fault.number(), number);
+    }
+}
+
+#[test]
+fn refusals_of_an_event_come_in_order(rt: HostRuntime) {
+    let cases = [
+        (false, false, true, Some(WorldFault::NoCable)),
+        (false, false, false, Some(WorldFault::NoCable)),
+        (false, true, true, Some(WorldFault::NoCable)),
+        (false, true, false, Some(WorldFault::NoCable)),
+        (true, false, true, Some(WorldFault::NoSystem)),
+        (true, false, false, Some(WorldFault::NoSystem)),
+        (true, true, true, Some(WorldFault::Spent)),
+        (true, true, false, None),
+    ];
+    for (place, (cable, system, spent, expected)) in cases.iter().enumerate() {
+        let first = WorldFault::first_of_event(*cable, *system, *spent);
+        same_at(&rt, "row", place, &first, expected);
+    }
 }

@@ -174,14 +174,15 @@ fn leads_to(rt: &impl Abort, alloc: Global, row: &Row, wanted: Choices) -> Resul
 }
 
 #[test]
-fn standby_cables_take_over_by_the_limit_of_their_system(
-    rt: HostRuntime,
-) -> Result<(), WorldFault> {
+fn a_standby_cable_takes_over_and_the_first_comes_back(rt: HostRuntime) -> Result<(), WorldFault> {
     let ports = [Choice::Unselected, SELECTED, STANDBY, SELECTED];
-    leads_to(&rt, rt.alloc(), &BOTH_ROW, ports)?;
+    leads_to(&rt, rt.alloc(), &BOTH_ROW, ports)
+}
+
+#[test]
+fn the_limit_is_that_of_its_own_system(rt: HostRuntime) -> Result<(), WorldFault> {
     let first = [Choice::Unselected, SELECTED, SELECTED, SELECTED];
     leads_to(&rt, rt.alloc(), &FIRST_ROW, first)?;
     let second = [SELECTED, SELECTED, SELECTED, STANDBY];
-    leads_to(&rt, rt.alloc(), &SECOND_ROW, second)?;
-    Ok(())
+    leads_to(&rt, rt.alloc(), &SECOND_ROW, second)
 }
