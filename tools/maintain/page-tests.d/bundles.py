@@ -69,9 +69,9 @@ def of_two_in_turn(tests: Tests, folder: str) -> None:
 
 def of_bundles(tests: Tests, folder: str) -> None:
     """Each bundle, explained as text."""
-    of_two_in_turn(tests, folder)
     with tarfile.open(CAPTURES) as it:
         it.extractall(folder)
+    of_two_in_turn(tests, folder)
     for name, (done, headline, seen) in BUNDLES.items():
         files = sorted(glob.glob(os.path.join(folder, name, "*.pcap")))
         said = explained(*files)
