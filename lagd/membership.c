@@ -285,7 +285,7 @@ static const char *try_interface(struct process *process, const struct ports *po
     return NULL;
 }
 
-/* Adds a port by INTERFACE[:WORD,..]; answers what is wrong, of which some is written into `room`, or NULL, and its number. */
+/* Adds a port by INTERFACE[:WORD,..], or keeps one that leaves; answers what is wrong, of which some is written into `room`, or NULL, and its number. */
 static const char *add_or_keep_by_words(struct protocol *protocol, char *text, uint16_t *port, char room[static ORDER_ROOM]) {
     struct settings wanted = {.port_count = 0};
     struct port_settings *settings = &wanted.ports[0];
