@@ -32,39 +32,39 @@ static int start_program(const char *path, char *const *environment) {
 }
 
 /* Runs the program. Nobody waits for it. */
-static void run_hook(struct process *process, const struct bundle *now, enum bundle_state before) {
+static void run_hook(struct lines *lines, const struct bundle *now, enum bundle_state before) {
     char name[NAME_ROOM + 16], state[32], previous[32], links_text[32], carrying[32], aggregator[32];
     char *environment[] = {"PATH=/usr/sbin:/usr/bin:/sbin:/bin", name, state, previous, links_text, carrying, aggregator, NULL};
-    snprintf(name, sizeof name, "LAGD_BUNDLE=%s", process->settings->name);
+    snprintf(name, sizeof name, "LAGD_BUNDLE=%s", lines->process->settings->name);
     snprintf(state, sizeof state, "LAGD_STATE=%s", BUNDLE_STATE_TEXTS[now->state]);
     snprintf(previous, sizeof previous, "LAGD_PREVIOUS=%s", BUNDLE_STATE_TEXTS[before]);
     snprintf(links_text, sizeof links_text, "LAGD_LINKS=%u", now->links);
     snprintf(carrying, sizeof carrying, "LAGD_CARRYING=%u", now->carrying);
     snprintf(aggregator, sizeof aggregator, "LAGD_AGGREGATOR=%u", now->aggregator);
-    int fault = start_program(process->settings->hook, environment);
-    if (fault < 0) (void)say(process, LOG_WARNING | ABOUT_HOOK, "hook %s: %s", process->settings->hook, strerror(-fault));
+    int fault = start_program(lines->process->settings->hook, environment);
+    if (fault < 0) (void)say(lines, LOG_WARNING | ABOUT_HOOK, "hook %s: %s", lines->process->settings->hook, strerror(-fault));
 }
 
-static void enter_state(struct process *process, struct bundle *own, const struct bundle *now, const struct control *control) {
-    const struct settings *settings = process->settings;
+static void enter_state(struct core *core, struct bundle *own, const struct bundle *now, const struct control *control) {
+    const struct settings *settings = core->settings;
     enum bundle_state before = own->state;
     *own = *now;
     if (now->state != before) {
         own->changed_at = time(NULL);
         own->counts[now->state]++;
     }
-    (void)say(process, (now->state == BUNDLE_UP ? LOG_NOTICE : LOG_WARNING) | ABOUT_BUNDLE,
+    (void)say(core->lines, (now->state == BUNDLE_UP ? LOG_NOTICE : LOG_WARNING) | ABOUT_BUNDLE,
         "bundle %s: %s, %u of %u links carry, aggregator %u", settings->name, BUNDLE_STATE_TEXTS[now->state], now->carrying, now->links,
         now->aggregator);
-    tell_watchers_of(process, control, NULL);
+    tell_watchers_of(core, control, NULL);
     notify_bundle(own, "");
-    if (now->state != before && settings->hook[0]) run_hook(process, own, before);
+    if (now->state != before && settings->hook[0]) run_hook(core->lines, own, before);
 }
 
 /* Looks at the ports, and tells what became of the bundle. What changes too often is told later, but not that its device is down. */
 void look_at_bundle(struct protocol *protocol) {
     struct bundle now = protocol->bundle;
-    if (!protocol->process->has_started || (now.lines == 0 && !protocol->halt.down)) return;
+    if (!protocol->process->has_started || (now.lines_left == 0 && !protocol->halt.down)) return;
     choose_aggregator(protocol, &now);
     now.links = count_links(protocol->ports);
     uint16_t limit = protocol->settings->config.max_links, most = limit > 0 && limit < now.links ? limit : now.links;
@@ -74,13 +74,13 @@ void look_at_bundle(struct protocol *protocol) {
         return;
     if (now.changed_at == 0) now.changed_at = time(NULL);
     now.reported = true;
-    if (now.lines > 0) now.lines--;
-    enter_state(protocol->process, &protocol->bundle, &now, protocol->control);
+    if (now.lines_left > 0) now.lines_left--;
+    enter_state(protocol->core, &protocol->bundle, &now, protocol->control);
 }
 
-void end_bundle(struct process *process, struct bundle *own, const struct control *control) {
+void end_bundle(struct core *core, struct bundle *own, const struct control *control) {
     struct bundle now = *own;
     now.state = BUNDLE_DOWN;
     now.aggregator = now.carrying = 0;
-    if (own->state != BUNDLE_DOWN) enter_state(process, own, &now, control);
+    if (own->state != BUNDLE_DOWN) enter_state(core, own, &now, control);
 }

@@ -9,18 +9,18 @@
 #define LAST_WAKE 300
 
 /* Writes what a conversation of an aggregator is doing; answers whether the library told it. */
-bool ask_state(struct process *process, struct niw_system *system, uint16_t aggregator, uint16_t number, struct niw_assignment *state) {
-    *state = niw_conversation_state(system, aggregator, number);
-    return is_done(process, state->status, "niw_conversation_state");
+bool ask_state(struct core *core, uint16_t aggregator, uint16_t number, struct niw_assignment *state) {
+    *state = niw_conversation_state(&core->system, aggregator, number);
+    return is_done(core, state->status, "niw_conversation_state");
 }
 
 /* Writes the port of each conversation of an aggregator: 0 where it is free or held there, or there is no aggregator. Answers whether the
  * library told them. */
-bool ask_ports(struct process *process, struct niw_system *system, uint16_t aggregator, uint16_t *ports) {
+bool ask_ports(struct core *core, uint16_t aggregator, uint16_t *ports) {
     bool changed[CONVERSATIONS] = {false};
     memset(ports, 0, CONVERSATIONS * sizeof *ports);
     return aggregator == 0
-        || is_done(process, niw_conversation_ports(system, aggregator, ports, CONVERSATIONS, changed, CONVERSATIONS).status,
+        || is_done(core, niw_conversation_ports(&core->system, aggregator, ports, CONVERSATIONS, changed, CONVERSATIONS).status,
             "niw_conversation_ports");
 }
 
@@ -74,14 +74,14 @@ void choose_ports(struct plane *plane) {
     struct carry *carry = plane->carry;
     struct bundle now = {0};
     uint16_t before = carry->active;
-    read_views(carry->process, &carry->protocol->own_system, carry->ports);
+    read_views(carry->core, carry->ports);
     choose_aggregator(carry->protocol, &now);
     carry->active = now.carrying >= carry->settings->min_links ? now.aggregator : 0;
     note_active_ports(carry, false);
     if (carry->active_count == 0) note_active_ports(carry, true); /* while there is no other */
     if (before != 0 && carry->active != 0 && before != carry->active) carry->counts[SWITCHES]++;
     if ((before == 0) != (carry->active == 0))
-        (void)say(carry->process, LOG_NOTICE | ABOUT_CARRIER, "carry %s: carrier %s", carry->settings->carry, carry->active ? "on" : "off");
+        (void)say(carry->core->lines, LOG_NOTICE | ABOUT_CARRIER, "carry %s: carrier %s", carry->settings->carry, carry->active ? "on" : "off");
     if (before != carry->active) forget_heard(carry);
     if (before != carry->active && carry->active != 0) announce_soon(&carry->announce);
     CALL(plane->carrying->tell_host, plane);
@@ -102,10 +102,10 @@ void leave_previous(struct carry *carry) {
     uint16_t ports[CONVERSATIONS];
     if (carry->active == 0 || carry->active == left) return;
     carry->previous = carry->active;
-    if (!ask_ports(carry->process, &carry->protocol->own_system, left, ports)) return;
+    if (!ask_ports(carry->core, left, ports)) return;
     for (uint16_t number = 0; number < CONVERSATIONS; number++) {
-        uint32_t status = ports[number] == 0 ? NIW_OK : niw_leave_conversation(&carry->protocol->own_system, left, number);
-        if (status != NIW_MARKERS_SPENT && !is_done(carry->process, status, "niw_leave_conversation")) return;
+        uint32_t status = ports[number] == 0 ? NIW_OK : niw_leave_conversation(&carry->core->system, left, number);
+        if (status != NIW_MARKERS_SPENT && !is_done(carry->core, status, "niw_leave_conversation")) return;
     }
     send_due(carry->protocol);
 }
@@ -119,7 +119,7 @@ void note_heard(struct carry *carry) {
 
 /* After calls that may have changed something: the active aggregator, and what goes on in it. */
 void settle_carry(struct plane *plane) {
-    if (plane->carry->process->broken || !plane->changed) return;
+    if (plane->carry->core->broken || !plane->changed) return;
     plane->changed = false;
     CALL(plane->carrying->settle, plane);
 }
@@ -134,11 +134,11 @@ static void wake_sleeper(struct carry *carry, const struct link *link) {
     uint64_t load;
     if (link->view.receive_state == NIW_RECEIVE_CURRENT || *after == 0) *after = FIRST_WAKE;
     *ticks = sleeps ? *ticks + 1 : 0;
-    if (*ticks < *after || !is_told(carry->process, niw_load(&carry->protocol->own_system, port), "niw_load", &load) || load > 0)
+    if (*ticks < *after || !is_told(carry->core, niw_load(&carry->core->system, port), "niw_load", &load) || load > 0)
         return;
     *after = 2 * *after < LAST_WAKE ? 2 * *after : LAST_WAKE;
-    if (!is_done(carry->process, niw_set_link(&carry->protocol->own_system, port, false), "niw_set_link")) return;
-    if (!is_done(carry->process, niw_set_link(&carry->protocol->own_system, port, true), "niw_set_link")) return;
+    if (!is_done(carry->core, niw_set_link(&carry->core->system, port, false), "niw_set_link")) return;
+    if (!is_done(carry->core, niw_set_link(&carry->core->system, port, true), "niw_set_link")) return;
     *ticks = 0;
     carry->counts[WOKEN]++;
 }
@@ -146,11 +146,11 @@ static void wake_sleeper(struct carry *carry, const struct link *link) {
 void begin_carry_tick(struct carry *carry) {
     carry->time = milliseconds();
     pass_tap_tick(carry->device);
-    pass_announcing_tick(carry->process, &carry->announce, carry->device);
+    pass_announcing_tick(carry->core->lines, &carry->announce, carry->device);
 }
 
 void end_carry_tick(struct carry *carry) {
     EACH_LINK_AS_IS(link, carry->ports)
-        if (!carry->process->broken) wake_sleeper(carry, link);
+        if (!carry->core->broken) wake_sleeper(carry, link);
     carry->plane->changed = carry->to_balance = true;
 }

@@ -95,8 +95,8 @@ void resume_conversations(struct plane *plane, bool goes_on);
 
 /* carry.c */
 void go_on_in(struct carry *carry, uint16_t aggregator);
-bool ask_state(struct process *process, struct niw_system *system, uint16_t aggregator, uint16_t number, struct niw_assignment *state) MUST_USE;
-bool ask_ports(struct process *process, struct niw_system *system, uint16_t aggregator, uint16_t *ports) MUST_USE;
+bool ask_state(struct core *core, uint16_t aggregator, uint16_t number, struct niw_assignment *state) MUST_USE;
+bool ask_ports(struct core *core, uint16_t aggregator, uint16_t *ports) MUST_USE;
 bool is_held(const struct niw_assignment *state);
 bool is_busy(const struct carry *carry, const struct conversation *conversation);
 bool heard_peer_lately(const struct plane *plane);
@@ -109,7 +109,7 @@ void end_carry_tick(struct carry *carry);
 void suspect_aggregator(struct carry *carry, uint32_t aggregator);
 
 /* flight.c */
-bool is_told_distributing(struct process *process, struct niw_system *system, uint16_t port, bool wanted);
+bool is_told_distributing(struct core *core, uint16_t port, bool wanted);
 
 /* moves.c */
 void ask_moves(struct carry *carry);
@@ -119,6 +119,6 @@ void balance(struct carry *carry);
 
 /* announce.c */
 void announce_soon(struct announce *own);
-void pass_announcing_tick(struct process *process, struct announce *own, const struct device *device);
+void pass_announcing_tick(struct lines *lines, struct announce *own, const struct device *device);
 
 #endif

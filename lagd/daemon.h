@@ -6,6 +6,7 @@
 
 struct lagd {
     struct process process;
+    struct core core;
     struct settings settings; /* those that hold now */
     struct inherited inherited;
     struct ports ports;
@@ -21,16 +22,18 @@ struct lagd {
 
 /* Joins the parts of a daemon that has nothing yet, and is zeros. What is large is set by its fields: what nobody uses takes no memory. */
 #define JOIN(part, lagd) \
-    ((part)->process = &(lagd)->process, (part)->settings = &(lagd)->settings, (part)->ports = &(lagd)->ports, \
+    ((part)->process = &(lagd)->process, (part)->core = &(lagd)->core, (part)->settings = &(lagd)->settings, (part)->ports = &(lagd)->ports, \
         (part)->protocol = &(lagd)->protocol, (part)->device = &(lagd)->device, (part)->plane = &(lagd)->plane)
 static inline void join_parts(struct lagd *lagd) {
-    lagd->process = (struct process){.settings = &lagd->settings, .inherited = &lagd->inherited, .epoll_file = -1, .output = -1, .journal = -1,
-        .status.listener = -1};
+    lagd->process = (struct process){.settings = &lagd->settings, .inherited = &lagd->inherited, .epoll_file = -1, .status.listener = -1,
+        .lines = {.process = &lagd->process, .watchers = &lagd->process.status, .output = -1, .journal = -1}};
+    lagd->core.lines = &lagd->process.lines;
+    lagd->core.settings = &lagd->settings;
     lagd->device = (struct device){.process = &lagd->process, .plane = &lagd->plane, .tap = -1, .asker = -1, .most_mtu = ETH_DATA_LEN};
     lagd->state = (struct state){.carry = &lagd->carry, .copy_folder = -1, .lock = -1, .copied = -1};
     lagd->plane = (struct plane){.device = &lagd->device, .carry = &lagd->carry, .tap = &lagd->tap, .team = &lagd->team, .changed = true};
-    lagd->protocol = (struct protocol){.process = &lagd->process, .settings = &lagd->settings, .ports = &lagd->ports, .device = &lagd->device,
-        .plane = &lagd->plane, .control = &lagd->control, .bundle.lines = MOST_LINES};
+    lagd->protocol = (struct protocol){.process = &lagd->process, .core = &lagd->core, .settings = &lagd->settings, .ports = &lagd->ports,
+        .device = &lagd->device, .plane = &lagd->plane, .control = &lagd->control, .bundle.lines_left = MOST_LINES};
     JOIN(&lagd->carry, lagd);
     JOIN(&lagd->tap, lagd);
     JOIN(&lagd->team, lagd);

@@ -58,11 +58,11 @@ void note_actor(const struct settings *settings, struct link *link, const struct
 /* Hands a frame to the library, and sends the response to a marker, if there were not too many within a second. */
 static void hand_over(struct protocol *protocol, struct link *link, const struct arrival *arrival, const struct system_id *actor) {
     uint8_t response[NIW_FRAME];
-    struct niw_received received = niw_receive(&protocol->own_system, link->settings.number, arrival->frame, arrival->length, response,
+    struct niw_received received = niw_receive(&protocol->core->system, link->settings.number, arrival->frame, arrival->length, response,
         sizeof response);
-    if (!is_done(protocol->process, received.status, "niw_receive")) return;
+    if (!is_done(protocol->core, received.status, "niw_receive")) return;
     if (received.what == NIW_RECEIVED_DISABLED) link->counts[DISABLED_RECEIVED]++;
-    if (!is_done(protocol->process, niw_count_received(&link->counters, arrival->frame, arrival->length, received.what), "niw_count_received"))
+    if (!is_done(protocol->core, niw_count_received(&link->counters, arrival->frame, arrival->length, received.what), "niw_count_received"))
         return;
     if (received.what == NIW_RECEIVED_TOOK_LACPDU && actor) note_actor(protocol->settings, link, actor, arrival->frame);
     if (received.what != NIW_RECEIVED_RESPOND) return;
@@ -102,7 +102,7 @@ void accept_frame(struct protocol *protocol, struct link *link, const struct arr
         note_stranger(link, &actor, arrival->frame + 6);
         return;
     }
-    bool is_response = link->up && read_response(protocol->process, arrival, &response);
+    bool is_response = link->up && read_response(protocol->core, arrival, &response);
     if (is_response && !is_partners_response(protocol->settings, link, arrival, &response)) {
         note_odd_marker(link, arrival, FOREIGN_RESPONSES);
         return;
@@ -146,11 +146,11 @@ void receive_frames(struct protocol *protocol, uint16_t port) {
 }
 
 /* Tells of strangers on a link, if there are more than were told of: at once, and then every 10 s at most. */
-void tell_strangers(struct process *process, uint64_t ticks, struct link *link) {
+void tell_strangers(struct lines *lines, uint64_t ticks, struct link *link) {
     struct strangers *strangers = &link->strangers;
     uint64_t foreign = link->counts[FOREIGN_RECEIVED], changes = link->counts[PARTNER_CHANGES];
     if (foreign + changes == strangers->reported || ticks < strangers->tell_at) return;
-    if (!say(process, LOG_WARNING | ABOUT_STRANGER,
+    if (!say(lines, LOG_WARNING | ABOUT_STRANGER,
         "port %u %s: another system speaks, last %s from %s: %" PRIu64 " LACPDUs not taken, %" PRIu64
             " changes of the partner", link->settings.number, link->name, system_text(&strangers->system, TEXT_ROOM),
             mac_text(strangers->source, TEXT_ROOM), foreign, changes))

@@ -13,16 +13,16 @@ static void fall_silent(struct protocol *protocol) {
 /* Tells each peer that its port is out of use, and then nothing more. */
 static void tell_peers_of_halt(struct protocol *protocol) {
     EACH_LINK(link, protocol->ports) expect_lacpdu(link);
-    apply_holds(protocol->process, &protocol->own_system, protocol->ports, protocol->halt.down);
+    apply_holds(protocol->core, protocol->ports, protocol->halt.down);
     send_due(protocol);
-    read_views(protocol->process, &protocol->own_system, protocol->ports);
+    read_views(protocol->core, protocol->ports);
     protocol->halt.ticks = 0;
     if (end_is_told(protocol->ports)) fall_silent(protocol);
 }
 
 /* The ports go on as new ones, once the kernel told of their interfaces. */
 static void end_halt(struct protocol *protocol) {
-    apply_holds(protocol->process, &protocol->own_system, protocol->ports, protocol->halt.down);
+    apply_holds(protocol->core, protocol->ports, protocol->halt.down);
     protocol->halt.silent = false;
     ask_links(&protocol->changes, protocol->ports);
 }
@@ -33,7 +33,7 @@ void follow_device(struct protocol *protocol, bool up) {
     if (own->down == !up) return;
     own->down = !up;
     if (!protocol->process->has_started) return;
-    (void)say(protocol->process, LOG_WARNING | ABOUT_CARRIER, "carry %s: the device is %s", protocol->settings->carry,
+    (void)say(protocol->core->lines, LOG_WARNING | ABOUT_CARRIER, "carry %s: the device is %s", protocol->settings->carry,
         up ? "up: LACP begins" : "down: LACP ends, and begins again once it is up");
     EACH_LINK(link, protocol->ports) link->changed = true;
     if (up)
@@ -53,7 +53,7 @@ void note_halt_at_start(struct halt *own, bool down, bool resuming) {
 /* The ports of the last daemon went on. */
 void halt_if_down(struct protocol *protocol) {
     if (protocol->halt.down)
-        (void)say(protocol->process, LOG_NOTICE | ABOUT_CARRIER, "carry %s: the device is down: LACP begins once it is up",
+        (void)say(protocol->core->lines, LOG_NOTICE | ABOUT_CARRIER, "carry %s: the device is down: LACP begins once it is up",
             protocol->settings->carry);
     if (protocol->halt.down && !protocol->halt.silent) tell_peers_of_halt(protocol);
     if (!protocol->halt.down && protocol->halt.silent) end_halt(protocol);

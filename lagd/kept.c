@@ -75,7 +75,7 @@ void write_settings(struct process *process, const struct link *link, const stru
         fprintf(file, "joins=%u\nqueues=%u %u %u %u\nrps=%s\nend\n", kept->joins, queues->rx_count, queues->tx_count, queues->other_count,
             queues->combined_count, kept->steered[0] ? kept->steered : "-");
     if (!file || !end_kept(process->folder, link, "member", file, true))
-        (void)say(process, LOG_WARNING | ABOUT_DATA, "port %u %s: if this daemon is killed, nobody knows what the interface had: %s",
+        (void)say(&process->lines, LOG_WARNING | ABOUT_DATA, "port %u %s: if this daemon is killed, nobody knows what the interface had: %s",
             link->settings.number, link->name, strerror(errno));
 }
 

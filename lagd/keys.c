@@ -146,7 +146,7 @@ void apply_speed(struct protocol *protocol, struct link *link) {
     link->speed = now;
     if (!by_speed) return;
     change.key = choose_key(&protocol->keys, protocol->ports, protocol->settings, link);
-    if (is_done(protocol->process, niw_configure(&protocol->own_system, link->settings.number, &change).status, "niw_configure"))
+    if (is_done(protocol->core, niw_configure(&protocol->core->system, link->settings.number, &change).status, "niw_configure"))
         link->settings.key = change.key;
 }
 

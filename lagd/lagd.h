@@ -128,7 +128,7 @@ struct link {
     uint8_t frame[NIW_FRAME];
     int trouble;            /* errno of what failed last, or 0 */
     unsigned trouble_ticks; /* how long it is still told */
-    unsigned lines;         /* how many lines time and frames may still cause */
+    unsigned lines_left;    /* how many lines time and frames may still cause */
     bool pinned;            /* whether LACPDUs of `partner` alone are taken */
     struct system_id partner;
     uint8_t source[6];        /* of the last LACPDU that was taken */
@@ -164,7 +164,7 @@ struct bundle {
     uint16_t links;      /* how many ports the bundle has */
     time_t changed_at;   /* when the state changed, in seconds since 1970 */
     uint64_t counts[BUNDLE_STATES];
-    unsigned lines; /* how many changes may still be told */
+    unsigned lines_left; /* how many changes may still be told */
     bool reported;  /* whether the first state was */
 };
 
@@ -212,17 +212,32 @@ struct store {
     size_t count;
 };
 
+/* The lines that are printed, in the journal, too, and told to watchers. Who has them without const may print one. */
+struct lines {
+    const struct process *process; /* whose they are */
+    struct status *watchers; /* who does not keep up is let go */
+    int output, journal; /* what they are written to, once there were some, or -1 */
+};
+
+/* The system of the library. Who has it without const may call the library; where that refuses, a line says so, the peers are told, and the daemon
+ * ends. */
+struct core {
+    struct niw_system system;
+    struct lines *lines;
+    const struct settings *settings; /* those that hold now */
+    bool broken; /* whether a call was refused */
+};
+
 /* The program: how far it is, its lines, the files that it has open, and what it was given. */
 struct process {
     const struct settings *settings;
     struct inherited *inherited; /* what the last daemon left; all 0 where there is nothing */
     bool has_started; /* whether the interfaces that are there were taken up */
     bool resuming;    /* whether links that come up are not yet up for the library */
-    bool broken;   /* whether it cannot go on, as where the library refused a call: the peers are told, and it ends */
     bool has_left; /* whether the next daemon goes on from here */
     int epoll_file; /* the epoll by which it waits */
     int folder;     /* of the status socket, and of what members had */
-    int output, journal; /* what lines are written to, once there were some, or -1 */
+    struct lines lines;
     struct words words;
     struct status status;
     struct store store;
@@ -276,12 +291,12 @@ struct choice {
 /* LACP: the system of the library, what the kernel tells of interfaces, and which ports the bundle has. */
 struct protocol {
     struct process *process;
+    struct core *core;
     struct settings *settings; /* those that hold now */
     struct ports *ports;
     struct device *device;
     struct plane *plane;     /* what carries the data */
     const struct control *control; /* who is told of changes */
-    struct niw_system own_system;
     uint16_t aggregator_count;
     struct bundle bundle;
     uint64_t began; /* in milliseconds */
@@ -297,6 +312,7 @@ struct protocol {
  * stays as it is, with all to which it leads but what another parameter names, the kernel and files; without const something may change. */
 #define PARTS \
     struct process *process; \
+    struct core *core; \
     const struct settings *settings; \
     struct ports *ports; \
     struct protocol *protocol; \
@@ -384,11 +400,11 @@ enum { EACH_KIND(KIND_ITSELF) KINDS = 0xf000 };
 _Noreturn void stop(int status, const char *what, const char *which);
 void need(bool done, const char *what);
 /* Whether the library did what it was called for. Where it refused, the process is broken, and a line says so: who calls this has no const part. */
-bool is_done(struct process *process, uint32_t status, const char *call) MUST_USE;
-bool is_told(struct process *process, struct niw_number answer, const char *call, uint64_t *number) MUST_USE;
-bool say(struct process *process, int level, const char *format, ...) __attribute__((format(printf, 3, 4)));
+bool is_done(struct core *core, uint32_t status, const char *call) MUST_USE;
+bool is_told(struct core *core, struct niw_number answer, const char *call, uint64_t *number) MUST_USE;
+bool say(struct lines *lines, int level, const char *format, ...) __attribute__((format(printf, 3, 4)));
 /* Tells what is wrong with a file. */
-#define complain(process, ...) ((void)say(process, LOG_WARNING | ABOUT_FILE, __VA_ARGS__))
+#define complain(lines, ...) ((void)say(lines, LOG_WARNING | ABOUT_FILE, __VA_ARGS__))
 size_t escape(char *text, size_t room, const char *from, size_t length, bool lines);
 
 /* address.c */
@@ -405,7 +421,7 @@ void release_interface(struct plane *plane, struct store *store, struct link *li
 int open_in_sys(int index, const char *what, int flags);
 bool read_text(int fd, char *text, size_t room);
 bool see_new_carrier(struct link *link);
-void send_frame(struct process *process, struct changes *changes, struct link *link, const uint8_t *frame);
+void send_frame(struct core *core, struct changes *changes, struct link *link, const uint8_t *frame);
 
 /* frames.c */
 struct arrival {
@@ -423,19 +439,19 @@ void accept_response(struct protocol *protocol, struct link *link, const struct 
 void forget_partner(const struct settings *settings, struct link *link);
 bool may_be_partner(const struct link *link, const uint8_t *frame, struct system_id *actor);
 void note_actor(const struct settings *settings, struct link *link, const struct system_id *actor, const uint8_t *frame);
-void tell_strangers(struct process *process, uint64_t ticks, struct link *link);
+void tell_strangers(struct lines *lines, uint64_t ticks, struct link *link);
 
 /* markers.c */
-bool read_response(struct process *process, const struct arrival *arrival, struct niw_pdu *pdu);
+bool read_response(struct core *core, const struct arrival *arrival, struct niw_pdu *pdu);
 bool is_partners_response(const struct settings *settings, const struct link *link, const struct arrival *arrival, const struct niw_pdu *response);
 void note_odd_marker(struct link *link, const struct arrival *arrival, enum count count);
 bool spend_answer(struct link *link, const struct arrival *arrival, unsigned most);
-void tell_markers(struct process *process, uint64_t ticks, struct link *link);
+void tell_markers(struct lines *lines, uint64_t ticks, struct link *link);
 
 #define MARKERS_AT_ONCE 16 /* how many come in the place of one, of a partner whose members have several queues, where ours have */
 
 /* twins.c */
-void look_for_twins(struct process *process, struct ports *ports);
+void look_for_twins(struct lines *lines, struct ports *ports);
 
 /* restore.c */
 bool choose_whether_restored(struct protocol *protocol, struct link *link);
@@ -473,15 +489,15 @@ const char *speed_text(const struct speed *speed, char room[static 40]);
 
 /* system.c */
 void make_system(struct protocol *protocol);
-size_t resume_system(struct process *process, struct niw_system *own, const struct protocol *protocol, struct niw_saved *saved, size_t count);
+size_t resume_system(struct core *core, const struct protocol *protocol, struct niw_saved *saved, size_t count);
 void set_link(struct protocol *protocol, struct link *link, bool up);
-bool apply_hold(struct process *process, struct niw_system *system, const struct link *link, bool down) MUST_USE;
-void apply_holds(struct process *process, struct niw_system *system, const struct ports *ports, bool down);
+bool apply_hold(struct core *core, const struct link *link, bool down) MUST_USE;
+void apply_holds(struct core *core, const struct ports *ports, bool down);
 void lose_link(struct protocol *protocol, struct link *link);
 void send_due(struct protocol *protocol);
 void settle_calls(struct protocol *protocol);
-void send_again(struct process *process, struct changes *changes, struct ports *ports);
-bool pass_system_tick(struct process *process, struct niw_system *system, struct ports *ports);
+void send_again(struct core *core, struct changes *changes, struct ports *ports);
+bool pass_system_tick(struct core *core, struct ports *ports);
 uint64_t seconds_since(uint64_t began);
 uint64_t milliseconds_of(clockid_t clock);
 uint64_t milliseconds(void);
@@ -517,9 +533,9 @@ void halt_if_down(struct protocol *protocol);
 void pass_halt_tick(struct protocol *protocol);
 
 /* ports.c */
-void read_views(struct process *process, struct niw_system *system, struct ports *ports);
-void print_all_changes(struct process *process, const struct protocol *protocol, struct ports *ports);
-bool print_change(struct process *process, const struct protocol *protocol, struct link *link);
+void read_views(struct core *core, struct ports *ports);
+void print_all_changes(struct core *core, const struct protocol *protocol, struct ports *ports);
+bool print_change(struct core *core, const struct protocol *protocol, struct link *link);
 struct facts facts_of(const struct protocol *protocol, const struct link *link);
 bool carries(const struct protocol *protocol, const struct link *link);
 uint16_t count_away(const struct ports *ports);
@@ -541,7 +557,7 @@ bool is_as_good_as_any(struct protocol *protocol, uint16_t aggregator);
 
 /* bundle.c */
 void look_at_bundle(struct protocol *protocol);
-void end_bundle(struct process *process, struct bundle *own, const struct control *control);
+void end_bundle(struct core *core, struct bundle *own, const struct control *control);
 
 /* reload.c */
 bool change_port(struct protocol *protocol, struct link *link, const struct settings *wanted);
@@ -612,7 +628,7 @@ void open_status(struct process *process, const char *folder);
 void accept_callers(struct status *own, int epoll_file);
 void pass_tick_of_callers(struct status *own, int epoll_file);
 void tell_watchers(struct status *own, const char *text, size_t length, bool json);
-void tell_watchers_of(struct process *process, const struct control *control, const struct link *link);
+void tell_watchers_of(struct core *core, const struct control *control, const struct link *link);
 
 /* state.c, resume.c */
 uint64_t boottime(void);

@@ -73,19 +73,19 @@ void need(bool done, const char *what) {
 }
 
 /* The library refuses only what this program should not ask: then the loop tells the peers, and ends; before the loop the program ends at once. */
-bool is_done(struct process *process, uint32_t status, const char *call) {
+bool is_done(struct core *core, uint32_t status, const char *call) {
     char why[64];
-    if (status == NIW_OK || process->broken) return status == NIW_OK;
+    if (status == NIW_OK || core->broken) return status == NIW_OK;
     snprintf(why, sizeof why, "refused with %" PRIu32, status);
-    if (!process->has_started) stop(REFUSED, call, why);
-    process->broken = true;
-    (void)say(process, LOG_ERR | ABOUT_REFUSAL, "%s: %s; the peers are told, and the daemon ends", call, why);
+    if (!core->lines->process->has_started) stop(REFUSED, call, why);
+    core->broken = true;
+    (void)say(core->lines, LOG_ERR | ABOUT_REFUSAL, "%s: %s; the peers are told, and the daemon ends", call, why);
     return false;
 }
 
-bool is_told(struct process *process, struct niw_number answer, const char *call, uint64_t *number) {
+bool is_told(struct core *core, struct niw_number answer, const char *call, uint64_t *number) {
     *number = answer.number;
-    return is_done(process, answer.status, call);
+    return is_done(core, answer.status, call);
 }
 
 /* Hands the journal a line of printable text of the bundle of this name, by its own protocol; answers 0, or -errno. */
@@ -102,30 +102,30 @@ static int tell_journal(int *journal, const char *name, int level, const char *t
 }
 
 /* Prints a text with the time, in UTC, or for the journal with its priority; watchers get it, too. Answers whether it was printed. */
-static bool say_text(struct process *process, int level, const char *text) {
+static bool say_text(struct lines *lines, int level, const char *text) {
     char line[LONGEST_LINE], time[32];
     struct timespec now;
     clock_gettime(CLOCK_REALTIME, &now);
     int used = snprintf(line, sizeof line, "%s.%03ldZ %s\n", time_text(now.tv_sec, time), now.tv_nsec / 1000000, text);
-    if (!(level & WATCHED)) tell_watchers(&process->status, line, (size_t)used, false);
+    if (!(level & WATCHED)) tell_watchers(lines->watchers, line, (size_t)used, false);
     if (in_journal()) {
-        int fault = tell_journal(&process->journal, process->settings->name, level, text);
+        int fault = tell_journal(&lines->journal, lines->process->settings->name, level, text);
         if (fault == 0 || fault == -EAGAIN) return fault == 0; /* one that is elsewhere reads standard output */
         used = snprintf(line, sizeof line, "<%d>%s\n", level & LOG_PRIMASK, text);
     }
-    return write_line(open_output(&process->output), line, (size_t)used);
+    return write_line(open_output(&lines->output), line, (size_t)used);
 }
 
 /* Prints a text as a line that a terminal only shows; what is wrong with a file stands on standard error at the start. Answers whether it was
  * printed. */
-bool say(struct process *process, int level, const char *format, ...) {
+bool say(struct lines *lines, int level, const char *format, ...) {
     char raw[LONGEST_TEXT], text[LONGEST_TEXT];
     va_list given;
     va_start(given, format);
     int length = vsnprintf(raw, sizeof raw, format, given);
     va_end(given);
     (void)escape(text, sizeof text, raw, length < (int)sizeof raw ? (size_t)length : sizeof raw - 1, false);
-    if (process->has_started || (level & KINDS) != ABOUT_FILE) return say_text(process, level, text);
+    if (lines->process->has_started || (level & KINDS) != ABOUT_FILE) return say_text(lines, level, text);
     write_error(text);
     return true;
 }

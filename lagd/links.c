@@ -125,7 +125,7 @@ void release_interface(struct plane *plane, struct store *store, struct link *li
 /* Sends a frame, with the address that the interface has now. An LACPDU that the kernel does not take is sent again at each tick,
  * until a newer one is due; so is one for which a second has no room: the library counts ticks, of which two may come at once where one was late. A
  * response is lost, as on a wire. A response tells of what came before its marker, and may pass what goes. */
-void send_frame(struct process *process, struct changes *changes, struct link *link, const uint8_t *frame) {
+void send_frame(struct core *core, struct changes *changes, struct link *link, const uint8_t *frame) {
     bool is_lacpdu = frame[SUBTYPE_AT] == SUBTYPE_LACP;
     uint8_t sent[NIW_FRAME];
     if (link->socket < 0) return;
@@ -139,7 +139,7 @@ void send_frame(struct process *process, struct changes *changes, struct link *l
     memcpy(sent + ETH_ALEN, link->mac, ETH_ALEN);
     if (give_past_data(link, sent)) {
         if (is_lacpdu) link->unsent = false;
-        if (!is_done(process, niw_count_sent(&link->counters, sent, sizeof sent), "niw_count_sent") || !is_lacpdu) return;
+        if (!is_done(core, niw_count_sent(&link->counters, sent, sizeof sent), "niw_count_sent") || !is_lacpdu) return;
         memmove(link->lacpdus_at, link->lacpdus_at + 1, sizeof link->lacpdus_at - sizeof *link->lacpdus_at);
         link->lacpdus_at[MOST_LACPDUS - 1] = boottime();
         return;

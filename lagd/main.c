@@ -75,7 +75,7 @@ static int open_signals(void) {
 /* Drops what is not needed once the sockets are open, for good: no program that it starts gets more, or has any. CAP_NET_RAW stays, for an
  * interface that comes later, and CAP_NET_ADMIN beside it where it carries data, as far as they are there. Its user stays who he was: who is
  * root may set files of /sys back, and runs the hooks. The unit has another one. */
-static void drop_privileges(struct process *process, bool administers) {
+static void drop_privileges(struct lines *lines, bool administers) {
     (void)prctl(PR_SET_NO_NEW_PRIVS, 1, 0, 0, 0);
     (void)prctl(PR_CAP_AMBIENT, PR_CAP_AMBIENT_CLEAR_ALL, 0, 0, 0);
     bool known = capng_get_caps_process() == 0;
@@ -86,21 +86,21 @@ static void drop_privileges(struct process *process, bool administers) {
     if (admin) (void)capng_update(CAPNG_ADD, CAPNG_EFFECTIVE | CAPNG_PERMITTED, CAP_NET_ADMIN);
     /* Whoever may not change the bounding set has it bounded, or not, by who started the daemon. */
     if (capng_apply(CAPNG_SELECT_BOTH) != 0 && capng_apply(CAPNG_SELECT_CAPS) != 0)
-        (void)say(process, LOG_WARNING | ABOUT_RIGHTS, "the capabilities stay as they are");
+        (void)say(lines, LOG_WARNING | ABOUT_RIGHTS, "the capabilities stay as they are");
 }
 
 static void tell_changes(struct protocol *protocol) {
-    read_views(protocol->process, &protocol->own_system, protocol->ports);
-    print_all_changes(protocol->process, protocol, protocol->ports);
+    read_views(protocol->core, protocol->ports);
+    print_all_changes(protocol->core, protocol, protocol->ports);
     look_at_bundle(protocol);
 }
 
 static void pass_second(struct lagd *lagd) {
     EACH_LINK(link, &lagd->ports) {
-        if (link->lines < MOST_LINES) link->lines++;
+        if (link->lines_left < MOST_LINES) link->lines_left++;
     }
-    look_for_twins(&lagd->process, &lagd->ports);
-    if (lagd->protocol.bundle.lines < MOST_LINES) lagd->protocol.bundle.lines++;
+    look_for_twins(&lagd->process.lines, &lagd->ports);
+    if (lagd->protocol.bundle.lines_left < MOST_LINES) lagd->protocol.bundle.lines_left++;
     pass_revert_second(&lagd->protocol);
     watch_changes(&lagd->protocol.changes, &lagd->ports);
     (void)save_state(&lagd->state, false);
@@ -109,10 +109,10 @@ static void pass_second(struct lagd *lagd) {
 
 static void pass_tick(struct lagd *lagd) {
     lagd->protocol.ticks++;
-    if (!pass_system_tick(&lagd->process, &lagd->protocol.own_system, &lagd->ports)) return;
+    if (!pass_system_tick(&lagd->core, &lagd->ports)) return;
     pass_halt_tick(&lagd->protocol);
     pass_leaving_tick(&lagd->protocol);
-    if (!lagd->process.broken) CALL(lagd->plane.carrying->tick, &lagd->plane);
+    if (!lagd->core.broken) CALL(lagd->plane.carrying->tick, &lagd->plane);
     if (lagd->protocol.ticks % SECOND == 0) pass_second(lagd);
 }
 
@@ -123,7 +123,7 @@ static void make_up_ticks(struct lagd *lagd, int clock) {
     if (passed > MOST_TICKS) passed = MOST_TICKS;
     for (; passed > 0; passed--) pass_tick(lagd);
     send_due(&lagd->protocol);
-    send_again(&lagd->process, &lagd->protocol.changes, &lagd->ports);
+    send_again(&lagd->core, &lagd->protocol.changes, &lagd->ports);
     pass_tick_of_callers(&lagd->process.status, lagd->process.epoll_file);
     tell_changes(&lagd->protocol);
 }
@@ -150,7 +150,7 @@ static void serve_all_frames(struct protocol *protocol, const struct epoll_event
 
 /* Takes the data of all members, and then that of the host. */
 static void serve_all_data(struct tap_plane *tap, const struct epoll_event *events, int count) {
-    bool host = is_cutting(tap->process, &tap->host) || is_ready(events, count, HOST);
+    bool host = is_cutting(tap->core, &tap->host) || is_ready(events, count, HOST);
     for (int i = 0; i < count; i++)
         if (events[i].data.u32 >= MEMBERS) serve_data(tap, events[i].data.u32);
     settle_carry(tap->plane);
@@ -165,7 +165,7 @@ static void hand_over_state(struct lagd *lagd) {
         CALL(lagd->plane.carrying->keep_device, &lagd->plane, false);
         return;
     }
-    (void)say(&lagd->process, LOG_NOTICE | ABOUT_HANDOVER, "the next daemon may go on from here; %u frames that waited are lost",
+    (void)say(&lagd->process.lines, LOG_NOTICE | ABOUT_HANDOVER, "the next daemon may go on from here; %u frames that waited are lost",
         ASK(lagd->plane.carrying->frames_waiting, 0, &lagd->plane));
 }
 
@@ -203,7 +203,7 @@ static int wait_for(struct tap_plane *tap, struct epoll_event *events) {
     if (tap->carry->taken >= MANY && !tap->carry->more_waits) (void)nanosleep(&(struct timespec){0, GATHERS}, NULL);
     tap->carry->taken = 0;
     tap->carry->more_waits = false;
-    return epoll_wait(tap->process->epoll_file, events, MOST_EVENTS, is_cutting(tap->process, &tap->host) ? 0 : -1);
+    return epoll_wait(tap->process->epoll_file, events, MOST_EVENTS, is_cutting(tap->core, &tap->host) ? 0 : -1);
 }
 
 /* Waits, and serves what comes. The first signal that ends it, or a refusal of the library, makes it tell the peers; it ends when they
@@ -215,11 +215,11 @@ static void run(struct lagd *lagd, int signals, int clock, const char *file) {
         int count = wait_for(&lagd->tap, events);
         bool ends_now = count < 0 && errno != EINTR;
         serve(lagd, events, count, clock);
-        if (lagd->process.broken) end_carry(&lagd->plane);
+        if (lagd->core.broken) end_carry(&lagd->plane);
         if (ends && is_ready(events, count, CLOCK)) end_ticks++;
         if (is_ready(events, count, SIGNALS)) ends_now = serve_signal(lagd, signals, ends ? NULL : file);
         if (lagd->process.has_left || (ends && ends_now)) return;
-        if (ends || !(ends_now || lagd->process.broken)) continue;
+        if (ends || !(ends_now || lagd->core.broken)) continue;
         ends = true;
         notify("STOPPING=1");
         end_state(&lagd->state);
@@ -255,7 +255,7 @@ static int run_daemon(struct lagd *lagd, const struct options *options) {
     open_status(&lagd->process, options->folder);
     int clock = open_clock();
     need(await_input(lagd->process.epoll_file, signals, SIGNALS) && await_input(lagd->process.epoll_file, clock, CLOCK), "epoll");
-    drop_privileges(&lagd->process, lagd->plane.carrying->administers);
+    drop_privileges(&lagd->process.lines, lagd->plane.carrying->administers);
     unsigned resumed = resume(&lagd->protocol);
     lagd->process.has_started = true;
     resume_data(&lagd->protocol, resumed);
@@ -281,6 +281,6 @@ int main(int argc, char **argv) {
     keep_standard_files();
     read_options(&lagd->process, argc, argv, &options);
     if (options.action == RUN_BUNDLE) return run_daemon(lagd, &options);
-    if (options.action == CHECK) return check_machine(&lagd->process, &lagd->plane, &options);
-    return ask_daemons(&lagd->process, lagd->control.report, &options);
+    if (options.action == CHECK) return check_machine(&lagd->process.lines, &lagd->plane, &options);
+    return ask_daemons(&lagd->process.lines, lagd->control.report, &options);
 }

@@ -17,10 +17,10 @@ static bool is_from_partner(const struct link *link, const struct arrival *arriv
 }
 
 /* Reads a Marker PDU; answers whether the frame is a marker response. */
-bool read_response(struct process *process, const struct arrival *arrival, struct niw_pdu *pdu) {
+bool read_response(struct core *core, const struct arrival *arrival, struct niw_pdu *pdu) {
     if (arrival->length <= SUBTYPE_AT || arrival->frame[SUBTYPE_AT] != SUBTYPE_MARKER) return false;
     struct niw_decoded decoded = niw_decode(arrival->frame + ETH_HLEN, arrival->length - ETH_HLEN, pdu);
-    return decoded.status != NIW_BAD_PAYLOAD && is_done(process, decoded.status, "niw_decode") && pdu->tlv_type == NIW_MARKER_RESPONSE;
+    return decoded.status != NIW_BAD_PAYLOAD && is_done(core, decoded.status, "niw_decode") && pdu->tlv_type == NIW_MARKER_RESPONSE;
 }
 
 /* Whether a response is the partner's, to a marker of this port and system. The number is for whoever sent the marker. */
@@ -54,10 +54,10 @@ bool spend_answer(struct link *link, const struct arrival *arrival, unsigned mos
 }
 
 /* Tells of responses that are not the partner's, and of markers that are not answered: at once, and then every 10 s at most. */
-void tell_markers(struct process *process, uint64_t ticks, struct link *link) {
+void tell_markers(struct lines *lines, uint64_t ticks, struct link *link) {
     uint64_t foreign = link->counts[FOREIGN_RESPONSES], unanswered = link->counts[RESPONSES_UNSENT];
     if (foreign + unanswered == link->markers.reported || ticks < link->markers.tell_at) return;
-    if (!say(process, LOG_WARNING | ABOUT_MARKERS,
+    if (!say(lines, LOG_WARNING | ABOUT_MARKERS,
             "port %u %s: Marker PDUs, last from %s: %" PRIu64 " responses that are not the partner's, %" PRIu64 " markers not answered",
             link->settings.number, link->name, mac_text(link->markers.source, TEXT_ROOM), foreign, unanswered))
         return;

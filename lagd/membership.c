@@ -98,7 +98,7 @@ void keep_left_ports(const struct inherited *inherited, struct ports *ports, str
 /* A port begins, as the settings have it. What the library tells of it stays. */
 void begin_link(const struct settings *settings, struct link *link, uint16_t port) {
     *link = (struct link){.name = settings->ports[port - 1].name, .settings = port_of(settings, port), .socket = -1, .lock = -1,
-        .carrier_file = -1, .lines = MOST_LINES, .changed = true, .view = link->view};
+        .carrier_file = -1, .lines_left = MOST_LINES, .changed = true, .view = link->view};
     link->key = link->settings.key;
     link->used = link->name[0] != 0;
     link->held = wants_hold(settings, port);
@@ -111,9 +111,9 @@ static bool configure_port(struct protocol *protocol, struct link *link) {
         .priority = link->settings.priority, .aggregatable = link->settings.aggregatable};
     uint16_t port = link->settings.number;
     link->settings.key = change.key;
-    return is_done(protocol->process, niw_configure(&protocol->own_system, port, &change).status, "niw_configure")
-        && is_done(protocol->process, niw_set_mode(&protocol->own_system, port, link->settings.active, link->settings.short_timeout), "niw_set_mode")
-        && apply_hold(protocol->process, &protocol->own_system, link, protocol->halt.down);
+    return is_done(protocol->core, niw_configure(&protocol->core->system, port, &change).status, "niw_configure")
+        && is_done(protocol->core, niw_set_mode(&protocol->core->system, port, link->settings.active, link->settings.short_timeout), "niw_set_mode")
+        && apply_hold(protocol->core, link, protocol->halt.down);
 }
 
 void join_port(struct protocol *protocol, struct link *link, const struct port_settings *settings) {
@@ -124,7 +124,7 @@ void join_port(struct protocol *protocol, struct link *link, const struct port_s
     link->puts_in = true;
     CALL(protocol->plane->carrying->forget, protocol->plane, link);
     if (!configure_port(protocol, link)) return;
-    (void)say(protocol->process, LOG_NOTICE | ABOUT_PORT, "port %u %s: it joins the bundle", port, link->name);
+    (void)say(protocol->core->lines, LOG_NOTICE | ABOUT_PORT, "port %u %s: it joins the bundle", port, link->name);
     ask_now(&protocol->changes, protocol->ports);
 }
 
@@ -133,7 +133,7 @@ static void end_leaving(struct protocol *protocol, struct link *link) {
     uint16_t port = link->settings.number;
     link->used = false; /* no line tells that its interface is missing */
     if (link->socket >= 0) lose_link(protocol, link);
-    (void)say(protocol->process, LOG_NOTICE | ABOUT_PORT, "port %u %s: it left the bundle", port, link->name);
+    (void)say(protocol->core->lines, LOG_NOTICE | ABOUT_PORT, "port %u %s: it left the bundle", port, link->name);
     protocol->settings->ports[port - 1] = unset_port();
     begin_link(protocol->settings, link, port);
     protocol->plane->changed = true;
@@ -150,7 +150,7 @@ bool begin_hold(struct protocol *protocol, struct link *link) {
     protocol->plane->changed = true;
     if (link->emptying) return true;
     if (out_of_use) CALL(protocol->plane->carrying->drain, protocol->plane, link);
-    return apply_hold(protocol->process, &protocol->own_system, link, protocol->halt.down);
+    return apply_hold(protocol->core, link, protocol->halt.down);
 }
 
 /* A port that is emptied is held, once it is empty, or after a while. */
@@ -159,7 +159,7 @@ static void end_emptying(struct protocol *protocol, struct link *link) {
     link->emptying = false;
     link->leaves_since = milliseconds();
     CALL(protocol->plane->carrying->drain, protocol->plane, link);
-    if (apply_hold(protocol->process, &protocol->own_system, link, protocol->halt.down)) settle_calls(protocol);
+    if (apply_hold(protocol->core, link, protocol->halt.down)) settle_calls(protocol);
 }
 
 /* A port goes: its peer is told, and its conversations leave it. One whose link is down is gone at once. */
@@ -170,7 +170,7 @@ void leave_port(struct protocol *protocol, struct link *link) {
         end_leaving(protocol, link);
         return;
     }
-    (void)say(protocol->process, LOG_NOTICE | ABOUT_PORT, "port %u %s: it leaves the bundle", link->settings.number, link->name);
+    (void)say(protocol->core->lines, LOG_NOTICE | ABOUT_PORT, "port %u %s: it leaves the bundle", link->settings.number, link->name);
     if (begin_hold(protocol, link)) settle_calls(protocol);
 }
 
@@ -178,34 +178,34 @@ void stay_port(struct protocol *protocol, struct link *link) {
     if (!link->leaving) return;
     link->leaving = false;
     link->changed = true;
-    (void)say(protocol->process, LOG_NOTICE | ABOUT_PORT, "port %u %s: it stays in the bundle", link->settings.number, link->name);
+    (void)say(protocol->core->lines, LOG_NOTICE | ABOUT_PORT, "port %u %s: it stays in the bundle", link->settings.number, link->name);
     if (begin_hold(protocol, link)) settle_calls(protocol);
 }
 
 /* Whether nothing of ours is on a link that is held, and its partner sends nothing more there, as far as it tells. */
-static bool is_quiet(struct process *process, struct niw_system *system, const struct link *link) {
+static bool is_quiet(struct core *core, const struct link *link) {
     uint64_t load = 0, held = 0;
     bool stopped = link->view.defaulted || !(link->view.partner_state & (NIW_STATE_COLLECTING | NIW_STATE_DISTRIBUTING));
-    return stopped && is_told(process, niw_load(system, link->settings.number), "niw_load", &load) && load == 0
-        && is_told(process, niw_held(system, link->settings.number), "niw_held", &held) && held == 0;
+    return stopped && is_told(core, niw_load(&core->system, link->settings.number), "niw_load", &load) && load == 0
+        && is_told(core, niw_held(&core->system, link->settings.number), "niw_held", &held) && held == 0;
 }
 
 /* Notes whether a port has left: it is quiet, and was so while its peer may ask for responses to its markers, or it was waited for long enough. */
-static bool note_whether_left(struct process *process, struct niw_system *system, struct link *link) {
-    uint64_t now = milliseconds(), most = process->settings->flight > MOST_WAIT ? process->settings->flight : MOST_WAIT;
+static bool note_whether_left(struct core *core, struct link *link) {
+    uint64_t now = milliseconds(), most = core->settings->flight > MOST_WAIT ? core->settings->flight : MOST_WAIT;
     if (!link->up) return true;
     if (link->emptying) return false;
-    if (link->left_at == 0 && (is_quiet(process, system, link) || now - link->leaves_since >= most)) link->left_at = now;
+    if (link->left_at == 0 && (is_quiet(core, link) || now - link->leaves_since >= most)) link->left_at = now;
     return link->left_at != 0 && now - link->left_at >= LINGERS;
 }
 
 /* 100 ms passed. A port that the device alone had, and has no more, leaves. */
 void pass_leaving_tick(struct protocol *protocol) {
     EACH_LINK(link, protocol->ports) {
-        if (protocol->process->broken) return;
+        if (protocol->core->broken) return;
         if (protocol->settings->follow && link->used && link->followed && link->outside) leave_port(protocol, link);
         if (link->emptying) end_emptying(protocol, link);
-        if (link->leaving && note_whether_left(protocol->process, &protocol->own_system, link)) end_leaving(protocol, link);
+        if (link->leaving && note_whether_left(protocol->core, link)) end_leaving(protocol, link);
     }
 }
 
@@ -233,9 +233,9 @@ bool note_whether_outside(const struct protocol *protocol, struct link *link, in
 void tell_taken_out(struct protocol *protocol, struct link *link) {
     if (!protocol->settings->follow || !protocol->process->has_started) return;
     link->puts_in = false;
-    if (!is_done(protocol->process, niw_hold(&protocol->own_system, link->settings.number, true), "niw_hold")) return;
+    if (!is_done(protocol->core, niw_hold(&protocol->core->system, link->settings.number, true), "niw_hold")) return;
     send_due(protocol);
-    if (apply_hold(protocol->process, &protocol->own_system, link, protocol->halt.down)) link->changed = true;
+    if (apply_hold(protocol->core, link, protocol->halt.down)) link->changed = true;
 }
 
 /* A number that no port has, as its place, or NULL. */
@@ -265,9 +265,9 @@ bool take_new_name(struct protocol *protocol, struct link *link, const struct in
     char *name = protocol->settings->ports[link->settings.number - 1].name;
     if (!link->followed || link->leaving || interface->master != protocol->device->index || link_named(protocol->ports, interface->name))
         return false;
-    (void)say(protocol->process, LOG_NOTICE | ABOUT_PORT, "port %u %s: its name is %s now", link->settings.number, name, interface->name);
+    (void)say(protocol->core->lines, LOG_NOTICE | ABOUT_PORT, "port %u %s: its name is %s now", link->settings.number, name, interface->name);
     memcpy(name, interface->name, sizeof interface->name);
-    tell_watchers_of(protocol->process, protocol->control, link);
+    tell_watchers_of(protocol->core, protocol->control, link);
     return true;
 }
 
@@ -316,14 +316,14 @@ static const char *add_or_keep_by_words(struct protocol *protocol, char *text, u
 /* Puts a port out of use, or lets it be used again; answers whether it is done, as far as anything is on its way. */
 static bool hold_by_word(struct protocol *protocol, struct link *link, bool hold) {
     if (link->held != hold) {
-        (void)say(protocol->process, LOG_NOTICE | ABOUT_PORT, "port %u %s: it is %s", link->settings.number, link->name,
+        (void)say(protocol->core->lines, LOG_NOTICE | ABOUT_PORT, "port %u %s: it is %s", link->settings.number, link->name,
             hold ? "held" : "used again");
         link->held = hold;
         if (!begin_hold(protocol, link)) return true;
         protocol->settings->ports[link->settings.number - 1].hold = hold;
         settle_calls(protocol);
     }
-    return !hold || note_whether_left(protocol->process, &protocol->own_system, link);
+    return !hold || note_whether_left(protocol->core, link);
 }
 
 /* Does what somebody asks for, `add`, `remove`, `hold` or `release` of an interface, and answers: `done`, `wait` where it is to be asked again, as

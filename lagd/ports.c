@@ -50,14 +50,14 @@ static void count_change(const struct settings *settings, struct link *link, con
         link->counts[DISTRIBUTED]++;
 }
 
-void read_views(struct process *process, struct niw_system *system, struct ports *ports) {
+void read_views(struct core *core, struct ports *ports) {
     struct niw_view views[NIW_MOST_PORTS];
     uint64_t changed;
-    if (!is_told(process, niw_views(system, views, NIW_MOST_PORTS), "niw_views", &changed)) return;
+    if (!is_told(core, niw_views(&core->system, views, NIW_MOST_PORTS), "niw_views", &changed)) return;
     EACH_LINK(link, ports) {
         const struct niw_view *now = &views[link->settings.number - 1];
         if (!(changed >> (link->settings.number - 1) & 1)) continue;
-        count_change(process->settings, link, now);
+        count_change(core->settings, link, now);
         link->view = *now;
         link->changed = true;
     }
@@ -69,7 +69,7 @@ static bool is_same_facts(const struct facts *one, const struct facts *other) {
         && one->partner_port == other->partner_port;
 }
 
-static bool print_facts(struct process *process, const struct ports *ports, const struct link *link, const struct facts *facts, bool watchers_told) {
+static bool print_facts(struct lines *lines, const struct ports *ports, const struct link *link, const struct facts *facts, bool watchers_told) {
     char whose[96] = "no partner", system[32], trouble[128] = "", holder[HOLDER_ROOM];
     int level = (facts->status == NIW_PORT_STATUS_DISTRIBUTING ? LOG_NOTICE : LOG_WARNING) | (watchers_told ? WATCHED : 0) | ABOUT_PORT;
     if (!facts->defaulted)
@@ -78,22 +78,22 @@ static bool print_facts(struct process *process, const struct ports *ports, cons
         snprintf(trouble, sizeof trouble, ", another lagd has the interface: %s", holder_of(ports, link->index, holder));
     else if (link->trouble)
         snprintf(trouble, sizeof trouble, ", %s", strerror(link->trouble));
-    return say(process, level, "port %u %s: %s, aggregator %u, %s%s", link->settings.number, link->name, status_text(facts->status),
+    return say(lines, level, "port %u %s: %s, aggregator %u, %s%s", link->settings.number, link->name, status_text(facts->status),
         facts->aggregator, whose, trouble);
 }
 
 /* Looks at a port, and prints it if it changed; answers whether it did. What could not be printed is looked at again. */
-bool print_change(struct process *process, const struct protocol *protocol, struct link *link) {
+bool print_change(struct core *core, const struct protocol *protocol, struct link *link) {
     struct facts facts = facts_of(protocol, link);
     bool same = link->reported && is_same_facts(&facts, &link->printed), watched = link->watched && is_same_facts(&facts, &link->shown);
-    if (!process->has_started || !link->used) return false;
+    if (!core->lines->process->has_started || !link->used) return false;
     if (!same && !watched) {
         link->changed_at = time(NULL);
-        tell_watchers_of(process, protocol->control, link);
+        tell_watchers_of(core, protocol->control, link);
     }
     link->watched = true;
     link->shown = facts;
-    link->changed = !same && !print_facts(process, protocol->ports, link, &facts, watched);
+    link->changed = !same && !print_facts(core->lines, protocol->ports, link, &facts, watched);
     if (same || link->changed) return false;
     link->reported = true;
     link->printed = facts;
@@ -101,10 +101,10 @@ bool print_change(struct process *process, const struct protocol *protocol, stru
 }
 
 /* Prints the ports that changed. What is printed too often is printed later. */
-void print_all_changes(struct process *process, const struct protocol *protocol, struct ports *ports) {
+void print_all_changes(struct core *core, const struct protocol *protocol, struct ports *ports) {
     EACH_LINK(link, ports) {
-        if (link->changed && link->lines > 0 && print_change(process, protocol, link)) link->lines--;
-        tell_strangers(process, protocol->ticks, link);
-        tell_markers(process, protocol->ticks, link);
+        if (link->changed && link->lines_left > 0 && print_change(core, protocol, link)) link->lines_left--;
+        tell_strangers(core->lines, protocol->ticks, link);
+        tell_markers(core->lines, protocol->ticks, link);
     }
 }

@@ -9,8 +9,8 @@
 #define NO_INDEX INT_MAX
 
 /* Tells what is lacking, or not known, for a key of the file; answers how the program ends. */
-int tell_lack(struct process *process, const struct options *options, const char *key, const char *what, int status) {
-    complain(process, "%s:%u: %s: %s", options->file, line_of_key(&options->settings, key), key, what);
+int tell_lack(struct lines *lines, const struct options *options, const char *key, const char *what, int status) {
+    complain(lines, "%s:%u: %s: %s", options->file, line_of_key(&options->settings, key), key, what);
     return status;
 }
 
@@ -23,18 +23,18 @@ int fault_of_programs(const struct settings *settings) {
 }
 
 /* Whether the kernel has what a key wants: programs of an interface, and for `fast` to wait for them. Answers how the program ends. */
-int check_programs(struct process *process, const struct options *options, const char *key, bool waits) {
+int check_programs(struct lines *lines, const struct options *options, const char *key, bool waits) {
     int fault = fault_of_programs(&options->settings);
-    if (fault == -EPERM) return tell_lack(process, options, key, "not known without CAP_BPF and CAP_NET_ADMIN", DONE);
-    if (fault != 0) return tell_lack(process, options, key, "the kernel has no program of an interface, which Linux has from 6.6 on", REFUSED);
+    if (fault == -EPERM) return tell_lack(lines, options, key, "not known without CAP_BPF and CAP_NET_ADMIN", DONE);
+    if (fault != 0) return tell_lack(lines, options, key, "the kernel has no program of an interface, which Linux has from 6.6 on", REFUSED);
     if (!waits || syscall(SYS_membarrier, MEMBARRIER_CMD_GLOBAL, 0, 0) == 0) return DONE;
-    return tell_lack(process, options, key, "the kernel cannot wait for its programs (membarrier)", REFUSED);
+    return tell_lack(lines, options, key, "the kernel cannot wait for its programs (membarrier)", REFUSED);
 }
 
 /* Says what this machine lacks for a file that is right: answers how the program ends. */
-int check_machine(struct process *process, struct plane *plane, const struct options *options) {
+int check_machine(struct lines *lines, struct plane *plane, const struct options *options) {
     choose_plane(plane, &options->settings);
-    int status = ASK(plane->carrying->check, DONE, process, plane, options);
-    if (status == DONE) status = ASK(plane->passing->check, DONE, process, plane, options);
-    return status == DONE ? ASK(plane->queueing->check, DONE, process, plane, options) : status;
+    int status = ASK(plane->carrying->check, DONE, lines, plane, options);
+    if (status == DONE) status = ASK(plane->passing->check, DONE, lines, plane, options);
+    return status == DONE ? ASK(plane->queueing->check, DONE, lines, plane, options) : status;
 }

@@ -30,8 +30,8 @@ void look_at_partner(struct probe *own, const struct carry *carry) {
 static void ask_peer(struct carry *carry) {
     struct probe *own = &carry->probe;
     uint8_t marker[NIW_FRAME];
-    struct niw_sent asked = niw_probe(&carry->protocol->own_system, carry->active_ports[0], marker, sizeof marker);
-    if (!is_done(carry->process, asked.status, "niw_probe") || !asked.is) return;
+    struct niw_sent asked = niw_probe(&carry->core->system, carry->active_ports[0], marker, sizeof marker);
+    if (!is_done(carry->core, asked.status, "niw_probe") || !asked.is) return;
     own->asking = true;
     if (own->peer == NOT_ASKED) own->peer = ASKED;
     own->asked_on = carry->active_ports[0];
@@ -40,17 +40,17 @@ static void ask_peer(struct carry *carry) {
 }
 
 /* It is known whether the peer answers: says so, if that is new. */
-static void note_answering(struct process *process, struct probe *own, enum answering now) {
+static void note_answering(struct lines *lines, struct probe *own, enum answering now) {
     own->asking = false;
     own->peer = now;
     if (own->peer == own->reported) return;
     own->reported = own->peer;
     if (own->peer == ANSWERS)
-        (void)say(process, LOG_NOTICE | ABOUT_MARKERS, "carry %s: the peer answers markers", process->settings->carry);
+        (void)say(lines, LOG_NOTICE | ABOUT_MARKERS, "carry %s: the peer answers markers", lines->process->settings->carry);
     else
-        (void)say(process, LOG_WARNING | ABOUT_MARKERS,
-            "carry %s: the peer answers no markers, so conversations move once they rested for %u ms", process->settings->carry,
-            process->settings->flight);
+        (void)say(lines, LOG_WARNING | ABOUT_MARKERS,
+            "carry %s: the peer answers no markers, so conversations move once they rested for %u ms", lines->process->settings->carry,
+            lines->process->settings->flight);
 }
 
 /* The partner sent a response on a link: to the last marker there, however late, or to another one. */
@@ -58,8 +58,8 @@ void note_response(struct plane *plane, const struct link *link) {
     struct carry *carry = plane->carry;
     uint16_t port = link->settings.number;
     uint64_t answers;
-    if (carry->probe.asked_on != port || !is_told(carry->process, niw_answers(&carry->protocol->own_system, port), "niw_answers", &answers)) return;
-    if (answers == NIW_ANSWERS_ANSWERED) note_answering(carry->process, &carry->probe, ANSWERS);
+    if (carry->probe.asked_on != port || !is_told(carry->core, niw_answers(&carry->core->system, port), "niw_answers", &answers)) return;
+    if (answers == NIW_ANSWERS_ANSWERED) note_answering(carry->core->lines, &carry->probe, ANSWERS);
 }
 
 void pass_probe_tick(struct tap_plane *tap) {
@@ -69,7 +69,7 @@ void pass_probe_tick(struct tap_plane *tap) {
         own->asking = false; /* its link went: the peer is asked by another one */
         own->peer = NOT_ASKED;
     } else if (own->asking && carry->time - own->asked_at >= PATIENCE) {
-        note_answering(carry->process, &carry->probe, MUTE);
+        note_answering(carry->core->lines, &carry->probe, MUTE);
     } else if (own->asking && carry->time - own->sent_at >= AGAIN) {
         own->sent_at = carry->time;
         if (send_marker_again(tap, own->asked_on)) carry->counts[MARKERS_AGAIN]++;

@@ -14,7 +14,7 @@ static const char *restart_for(const struct settings *now, const struct keys *ke
  * 802.1AX-2014, 6.4.4), and current_while has the rest of the short timeout: the last LACPDU comes again, as the partner will send it, and starts the
  * timer with the long one. It is kept so for the next daemon. No frame came, so nothing is counted. An LACPDU that is too old for the short timeout
  * does not come again, nor one whose actor may no longer be the partner. Answers whether the library took that. */
-static bool take_again(struct process *process, struct niw_system *system, struct link *link) {
+static bool take_again(struct core *core, struct link *link) {
     uint16_t port = link->settings.number;
     uint8_t response[NIW_FRAME];
     struct system_id actor;
@@ -22,8 +22,8 @@ static bool take_again(struct process *process, struct niw_system *system, struc
         || !may_be_partner(link, link->lacpdu, &actor))
         return true;
     link->lacpdu[PARTNER_STATE] &= (uint8_t)~NIW_STATE_TIMEOUT;
-    struct niw_received received = niw_receive(system, port, link->lacpdu, sizeof link->lacpdu, response, sizeof response);
-    return is_done(process, received.status, "niw_receive");
+    struct niw_received received = niw_receive(&core->system, port, link->lacpdu, sizeof link->lacpdu, response, sizeof response);
+    return is_done(core, received.status, "niw_receive");
 }
 
 /* Gives a port what the library can change; answers whether anything differs. The aggregators keep the keys that they were made with: a port
@@ -33,19 +33,19 @@ bool change_port(struct protocol *protocol, struct link *link, const struct sett
     struct niw_port *now = &link->settings, next = port_of(wanted, port);
     struct niw_change change = {.priority = next.priority, .aggregatable = next.aggregatable};
     bool hold = wants_hold(wanted, port);
-    read_views(protocol->process, &protocol->own_system, protocol->ports);
+    read_views(protocol->core, protocol->ports);
     if (has_aggregator(&protocol->keys, next.key)) link->key = next.key;
     change.key = choose_key(&protocol->keys, protocol->ports, protocol->settings, link);
-    struct niw_truth answer = niw_configure(&protocol->own_system, port, &change);
-    bool changed = is_done(protocol->process, answer.status, "niw_configure") && answer.is;
+    struct niw_truth answer = niw_configure(&protocol->core->system, port, &change);
+    bool changed = is_done(protocol->core, answer.status, "niw_configure") && answer.is;
     if (changed) {
         now->key = change.key;
         now->priority = change.priority;
         now->aggregatable = change.aggregatable;
     }
     if ((next.active != now->active || next.short_timeout != now->short_timeout)
-        && is_done(protocol->process, niw_set_mode(&protocol->own_system, port, next.active, next.short_timeout), "niw_set_mode")
-        && (!now->short_timeout || next.short_timeout || take_again(protocol->process, &protocol->own_system, link))) {
+        && is_done(protocol->core, niw_set_mode(&protocol->core->system, port, next.active, next.short_timeout), "niw_set_mode")
+        && (!now->short_timeout || next.short_timeout || take_again(protocol->core, link))) {
         now->active = next.active;
         now->short_timeout = next.short_timeout;
         changed = true;
@@ -121,7 +121,7 @@ static bool read_file_again(struct process *process, const char *file, struct se
     if (!read_bundle_file(process, file, wanted)) return false;
     if (!wanted->system_auto || !process->settings->system_auto) return true;
     memcpy(wanted->config.mac, process->settings->config.mac, sizeof wanted->config.mac);
-    return check_whole_bundle(process, file, wanted);
+    return check_whole_bundle(&process->lines, file, wanted);
 }
 
 /* Reads the file again. One that is wrong changes nothing. */
@@ -129,15 +129,15 @@ void reload(struct protocol *protocol, const char *file) {
     struct settings wanted;
     notify("RELOADING=1");
     if (!read_file_again(protocol->process, file, &wanted)) {
-        complain(protocol->process, "%s: the file is wrong, and nothing is changed", file);
+        complain(protocol->core->lines, "%s: the file is wrong, and nothing is changed", file);
     } else if (!place_ports(protocol->process, protocol->ports, &wanted)) {
-        (void)say(protocol->process, LOG_WARNING | ABOUT_RESTART,
+        (void)say(protocol->core->lines, LOG_WARNING | ABOUT_RESTART,
             "%s: more ports than there is room for: a restart of this bundle is needed, and nothing is changed", file);
     } else {
         const char *rest = restart_for(protocol->settings, &protocol->keys, &wanted);
         unsigned changed = apply_settings(protocol, &wanted);
-        (void)say(protocol->process, LOG_NOTICE | ABOUT_RELOAD, "%s: read again, %u ports changed", file, changed);
-        if (rest) (void)say(protocol->process, LOG_WARNING | ABOUT_RESTART, "%s: %s: a restart of this bundle is needed", file, rest);
+        (void)say(protocol->core->lines, LOG_NOTICE | ABOUT_RELOAD, "%s: read again, %u ports changed", file, changed);
+        if (rest) (void)say(protocol->core->lines, LOG_WARNING | ABOUT_RESTART, "%s: %s: a restart of this bundle is needed", file, rest);
         settle_calls(protocol);
     }
     notify_bundle(&protocol->bundle, READY);

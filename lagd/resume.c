@@ -63,9 +63,9 @@ static void tell_links(struct process *process, const struct ports *ports, unsig
     unsigned known = 0;
     EACH_LINK_AS_IS(link, ports) known += link->socket >= 0 && inherited_of(process->inherited, link) != NULL;
     if (known > 0 && process->inherited->others)
-        (void)say(process, LOG_WARNING | ABOUT_HANDOVER, "the state that the last daemon left is not used: it belongs to other settings");
+        (void)say(&process->lines, LOG_WARNING | ABOUT_HANDOVER, "the state that the last daemon left is not used: it belongs to other settings");
     else if (known > 0)
-        (void)say(process, LOG_NOTICE | ABOUT_HANDOVER, "%u of %u links go on where the last daemon left them", count, count_links(ports));
+        (void)say(&process->lines, LOG_NOTICE | ABOUT_HANDOVER, "%u of %u links go on where the last daemon left them", count, count_links(ports));
 }
 
 /* Once the interfaces are taken up: the ports that distributed do so again. Answers how many went on. Nothing but conversations that stay where they
@@ -77,7 +77,7 @@ unsigned resume(struct protocol *protocol) {
     const uint64_t now = boottime() + inherited->ahead; /* as the last daemon had it */
     EACH_LINK(link, protocol->ports)
         if (protocol->process->resuming && goes_on(inherited, link, now)) saved[count++] = saved_of(inherited, link, now);
-    count = resume_system(protocol->process, &protocol->own_system, protocol, saved, count);
+    count = resume_system(protocol->core, protocol, saved, count);
     for (size_t i = 0; i < count; i++) recall_partner(protocol->process, &protocol->ports->links[saved[i].port - 1]);
     tell_links(protocol->process, protocol->ports, (unsigned)count);
     return (unsigned)count;
@@ -86,17 +86,17 @@ unsigned resume(struct protocol *protocol) {
 /* Behind the conversations that stay: the settings hold ports, and the links that are up come up for the library, too. Those that went on were up
  * before, so none of the others takes the place of one where links are limited. */
 void release_others(struct protocol *protocol) {
-    apply_holds(protocol->process, &protocol->own_system, protocol->ports, false);
+    apply_holds(protocol->core, protocol->ports, false);
     EACH_LINK(link, protocol->ports)
         if (protocol->process->resuming && link->up
-            && !is_done(protocol->process, niw_set_link(&protocol->own_system, link->settings.number, true), "niw_set_link"))
+            && !is_done(protocol->core, niw_set_link(&protocol->core->system, link->settings.number, true), "niw_set_link"))
             break;
     protocol->process->resuming = false;
     settle_calls(protocol);
 }
 
 static void stay_on_port(struct carry *carry, uint16_t number, uint16_t port) {
-    if (niw_adopt(&carry->protocol->own_system, carry->active, number, port) != NIW_OK) return;
+    if (niw_adopt(&carry->core->system, carry->active, number, port) != NIW_OK) return;
     carry->conversations[number].home = carry->active;
     carry->conversations[number].port = port;
     carry->conversations[number].last = carry->time;
@@ -106,7 +106,7 @@ static void stay_on_port(struct carry *carry, uint16_t number, uint16_t port) {
 static uint16_t port_carrying_on(struct carry *carry, int index) {
     EACH_LINK(link, carry->ports)
         if (index != 0 && link->socket >= 0 && link->index == index && link->view.aggregator == carry->active
-            && is_told_distributing(carry->process, &carry->protocol->own_system, link->settings.number, true))
+            && is_told_distributing(carry->core, link->settings.number, true))
             return link->settings.number;
     return 0;
 }
@@ -129,7 +129,7 @@ void resume_conversations(struct plane *plane, bool goes_on) {
 void resume_data(struct protocol *protocol, unsigned count) {
     const struct inherited *inherited = protocol->process->inherited;
     bool goes_on = count > 0 && inherited->bundle.aggregator <= protocol->aggregator_count;
-    read_views(protocol->process, &protocol->own_system, protocol->ports);
+    read_views(protocol->core, protocol->ports);
     if (goes_on) { /* which is no change of the bundle */
         protocol->bundle.state = inherited->bundle.state;
         protocol->bundle.changed_at = inherited->bundle.changed_at;

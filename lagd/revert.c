@@ -39,19 +39,19 @@ static bool all_distribute(const struct ports *ports, uint16_t aggregator) {
 
 /* Whether a port that stands by would distribute at once: its partner speaks, and has selected it. A partner with a limit of its own may
  * have selected other links. */
-static bool would_distribute(struct process *process, struct niw_system *system, const struct link *link) {
+static bool would_distribute(struct core *core, const struct link *link) {
     uint64_t ticks;
     return link->view.receive_state == NIW_RECEIVE_CURRENT && (link->view.partner_state & NIW_STATE_SYNCHRONIZATION)
-        && is_told(process, niw_wait_while(system, link->settings.number), "niw_wait_while", &ticks) && ticks == 0;
+        && is_told(core, niw_wait_while(&core->system, link->settings.number), "niw_wait_while", &ticks) && ticks == 0;
 }
 
 /* Holds the ports that are too many under a limit, which are marked; answers whether that is done. */
-static bool hold_surplus(struct process *process, struct niw_system *system, struct ports *ports, uint16_t aggregators, uint16_t most, bool *marked) {
+static bool hold_surplus(struct core *core, struct ports *ports, uint16_t aggregators, uint16_t most, bool *marked) {
     for (uint16_t aggregator = 1; aggregator <= aggregators; aggregator++)
         for (struct link *last; (last = last_beyond(ports, aggregator, most));) {
-            if (!is_done(process, niw_hold(system, last->settings.number, true), "niw_hold")) return false;
+            if (!is_done(core, niw_hold(&core->system, last->settings.number, true), "niw_hold")) return false;
             marked[last->settings.number - 1] = true;
-            read_views(process, system, ports);
+            read_views(core, ports);
         }
     return true;
 }
@@ -60,26 +60,26 @@ static bool hold_surplus(struct process *process, struct niw_system *system, str
 void limit_links(struct protocol *protocol, uint16_t most) {
     bool marked[NIW_MOST_PORTS] = {false};
     if (most == protocol->settings->config.max_links) return;
-    read_views(protocol->process, &protocol->own_system, protocol->ports);
-    if (most != 0 && !hold_surplus(protocol->process, &protocol->own_system, protocol->ports, protocol->aggregator_count, most, marked)) return;
-    if (!is_done(protocol->process, niw_set_max_links(&protocol->own_system, most), "niw_set_max_links")) return;
+    read_views(protocol->core, protocol->ports);
+    if (most != 0 && !hold_surplus(protocol->core, protocol->ports, protocol->aggregator_count, most, marked)) return;
+    if (!is_done(protocol->core, niw_set_max_links(&protocol->core->system, most), "niw_set_max_links")) return;
     protocol->settings->config.max_links = most;
     EACH_LINK_AS_IS(link, protocol->ports)
-        if (marked[link - protocol->ports->links] && !apply_hold(protocol->process, &protocol->own_system, link, protocol->halt.down)) return;
+        if (marked[link - protocol->ports->links] && !apply_hold(protocol->core, link, protocol->halt.down)) return;
 }
 
 /* A second passed. One port gives way at most: it leaves its aggregator, and comes back to stand by. What is on its way there leaves it behind a
  * marker. */
 void pass_revert_second(struct protocol *protocol) {
     if (!protocol->settings->revert || protocol->halt.down) return;
-    read_views(protocol->process, &protocol->own_system, protocol->ports);
+    read_views(protocol->core, protocol->ports);
     for (uint16_t aggregator = 1; aggregator <= protocol->aggregator_count; aggregator++) {
         struct link *next = next_of(protocol->ports, aggregator), *last = last_beyond(protocol->ports, aggregator, 0);
         if (!next || !last || identifier_of(next) >= identifier_of(last)) continue;
-        if (!all_distribute(protocol->ports, aggregator) || !would_distribute(protocol->process, &protocol->own_system, next)) continue;
-        if (!is_done(protocol->process, niw_hold(&protocol->own_system, last->settings.number, true), "niw_hold")) return;
-        if (!apply_hold(protocol->process, &protocol->own_system, last, protocol->halt.down)) return;
-        (void)say(protocol->process, LOG_NOTICE | ABOUT_PORT, "port %u %s: it makes way for port %u %s", last->settings.number, last->name,
+        if (!all_distribute(protocol->ports, aggregator) || !would_distribute(protocol->core, next)) continue;
+        if (!is_done(protocol->core, niw_hold(&protocol->core->system, last->settings.number, true), "niw_hold")) return;
+        if (!apply_hold(protocol->core, last, protocol->halt.down)) return;
+        (void)say(protocol->core->lines, LOG_NOTICE | ABOUT_PORT, "port %u %s: it makes way for port %u %s", last->settings.number, last->name,
             next->settings.number, next->name);
         settle_calls(protocol);
         return;

@@ -67,7 +67,7 @@ static uint16_t best_after(const struct protocol *protocol, uint16_t before) {
 static uint16_t aggregator_after(struct protocol *protocol, uint16_t before) {
     uint64_t aggregator;
     if (protocol->settings->select != SELECT_COUNT) return best_after(protocol, before);
-    if (!is_told(protocol->process, niw_active_aggregator(&protocol->own_system, before), "niw_active_aggregator", &aggregator)) return 0;
+    if (!is_told(protocol->core, niw_active_aggregator(&protocol->core->system, before), "niw_active_aggregator", &aggregator)) return 0;
     return worth_of(protocol, (uint16_t)aggregator).links > 0 ? (uint16_t)aggregator : 0;
 }
 
@@ -104,9 +104,9 @@ void follow_peer(struct protocol *protocol, uint16_t aggregator) {
     own->last = aggregator;
     own->followed = aggregator_after(protocol, 0) == aggregator ? 0 : aggregator;
     if (own->followed == 0)
-        (void)say(protocol->process, LOG_NOTICE | ABOUT_BUNDLE, "bundle %s: the peer sends in aggregator %u: it carries",
+        (void)say(protocol->core->lines, LOG_NOTICE | ABOUT_BUNDLE, "bundle %s: the peer sends in aggregator %u: it carries",
             protocol->settings->name, aggregator);
     else
-        (void)say(protocol->process, LOG_WARNING | ABOUT_BUNDLE, "bundle %s: the peer sends in aggregator %u: it carries, whatever select=%s prefers",
-            protocol->settings->name, aggregator, SELECTIONS[protocol->settings->select]);
+        (void)say(protocol->core->lines, LOG_WARNING | ABOUT_BUNDLE,
+            "bundle %s: the peer sends in aggregator %u: it carries, whatever select=%s prefers", protocol->settings->name, aggregator, SELECTIONS[protocol->settings->select]);
 }

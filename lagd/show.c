@@ -169,7 +169,7 @@ static void add_link(struct report *report, const struct link *link, enum form f
 }
 
 static void add_member(struct report *report, const struct control *control, const struct link *link, enum form form) {
-    struct niw_system *system = &control->protocol->own_system;
+    struct niw_system *system = &control->core->system;
     const uint16_t port = link->settings.number;
     const struct niw_actor own = niw_party(system, port);
     const struct niw_number current_while = niw_current_while(system, port), wait_while = niw_wait_while(system, port);

@@ -56,7 +56,7 @@ static void write_conversations(struct state *own, FILE *file) {
     for (uint16_t number = 0; number < CONVERSATIONS; number++) {
         struct niw_assignment assigned;
         uint16_t home = carry->conversations[number].home;
-        if (home == 0 || !ask_state(carry->process, &carry->protocol->own_system, home, number, &assigned)
+        if (home == 0 || !ask_state(carry->core, home, number, &assigned)
             || assigned.what == NIW_CONVERSATION_FREE)
             continue;
         if (assigned.port == 0 || assigned.port > carry->ports->count) continue;
@@ -68,12 +68,12 @@ static void write_conversations(struct state *own, FILE *file) {
 static void write_state(struct state *own, FILE *file) {
     struct carry *carry = own->carry;
     struct protocol *protocol = carry->protocol;
-    struct niw_marker marker = niw_next_marker(&protocol->own_system);
+    struct niw_marker marker = niw_next_marker(&protocol->core->system);
     char boot[BOOT_ROOM], room[WAY_ROOM], mac[32];
     fprintf(file, "lagd %u\nboot %s\nway %s\n", FORM_VERSION, boot_id(boot), way_text(carry, room));
     fprintf(file, "space %" PRIu64 "\nwritten %" PRIu64 "\n", own->space, boottime());
     if (own->copy_folder >= 0) fprintf(file, "wall %" PRIu64 "\n", milliseconds_of(CLOCK_REALTIME));
-    fprintf(file, "marker %" PRIu32 "\n", is_done(carry->process, marker.status, "niw_next_marker") && marker.left ? marker.id : 0);
+    fprintf(file, "marker %" PRIu32 "\n", is_done(carry->core, marker.status, "niw_next_marker") && marker.left ? marker.id : 0);
     fprintf(file, "bundle %u %u %lld\n", protocol->bundle.state, protocol->bundle.aggregator, (long long)protocol->bundle.changed_at);
     if (protocol->choice.followed != 0) fputs("follows\n", file);
     if (carry->device->index != 0)
@@ -119,7 +119,7 @@ static FILE *replace_file(struct state *own, int folder, const char *name, bool 
     FILE *file = open_in(folder, new_name, O_WRONLY | O_CREAT | O_TRUNC | O_APPEND, "a");
     if (!file) return NULL;
     write_state(own, file);
-    if (fflush(file) == 0 && !ferror(file) && (!lasts || fsync(fileno(file)) == 0) && !own->carry->process->broken
+    if (fflush(file) == 0 && !ferror(file) && (!lasts || fsync(fileno(file)) == 0) && !own->carry->core->broken
         && renameat(folder, new_name, folder, name) == 0 && (!lasts || fsync(folder) == 0))
         return file;
     int fault = errno;
@@ -132,7 +132,7 @@ static FILE *replace_file(struct state *own, int folder, const char *name, bool 
 /* It could not be written: there is none. */
 static void give_up_file(struct state *own) {
     if (!own->failed)
-        (void)say(own->carry->process, LOG_WARNING | ABOUT_HANDOVER, "its state cannot be kept, so the next daemon starts anew: %s",
+        (void)say(own->carry->core->lines, LOG_WARNING | ABOUT_HANDOVER, "its state cannot be kept, so the next daemon starts anew: %s",
             strerror(-last_fault()));
     own->failed = true;
     (void)unlinkat(own->carry->process->folder, own->name, 0);
@@ -160,9 +160,9 @@ static const char *fault_text(int fault) {
     return fault == HANGS ? "its disk does not answer" : strerror(-fault);
 }
 
-static void tell_failed_removal(struct process *process, const char *name, int fault) {
+static void tell_failed_removal(struct lines *lines, const char *name, int fault) {
     if (fault < 0)
-        (void)say(process, LOG_ERR | ABOUT_HANDOVER,
+        (void)say(lines, LOG_ERR | ABOUT_HANDOVER,
             "its state cannot be removed: %s: remove %s, or start no daemon for as long as a partner is waited for", fault_text(fault), name);
 }
 
@@ -177,10 +177,10 @@ static void note_copy(struct state *own, struct copied copied) {
     const char *folder = own->carry->settings->state_dir;
     bool failed = copied.written < 0 || copied.removed < 0;
     if (copied.written < 0 && !own->copy_failed)
-        (void)say(process, LOG_WARNING | ABOUT_HANDOVER, "its state cannot be kept in %s, and what is there may stay: %s", folder,
+        (void)say(&process->lines, LOG_WARNING | ABOUT_HANDOVER, "its state cannot be kept in %s, and what is there may stay: %s", folder,
             fault_text(copied.written));
-    if (!own->copy_failed) tell_failed_removal(process, own->copy_name, copied.removed);
-    if (own->copy_failed && !failed) (void)say(process, LOG_NOTICE | ABOUT_HANDOVER, "its state can be kept in %s again", folder);
+    if (!own->copy_failed) tell_failed_removal(&process->lines, own->copy_name, copied.removed);
+    if (own->copy_failed && !failed) (void)say(&process->lines, LOG_NOTICE | ABOUT_HANDOVER, "its state can be kept in %s again", folder);
     own->copy_failed = failed;
 }
 
@@ -287,7 +287,7 @@ static void finish_copy(struct state *own, bool wanted) {
 /* Writes the state; answers whether it did. Where that fails there is none. */
 bool save_state(struct state *own, bool leaves) {
     struct process *process = own->carry->process;
-    if (own->over || process->broken || !process->has_started) return false;
+    if (own->over || own->carry->core->broken || !process->has_started) return false;
     FILE *file = replace_file(own, process->folder, own->name, false);
     if (!file) give_up_file(own);
     if (file) own->failed = false;
@@ -302,7 +302,7 @@ void end_state(struct state *own) {
     struct process *process = own->carry->process;
     own->over = true;
     keep_file(own, NULL);
-    tell_failed_removal(process, own->name, remove_file(process->folder, own->name, false));
+    tell_failed_removal(&process->lines, own->name, remove_file(process->folder, own->name, false));
     if (own->copy_folder >= 0) finish_copy(own, false);
 }
 
@@ -458,7 +458,7 @@ static void open_copy_folder(struct state *own) {
     own->copied_ports = UINT64_MAX;
     if (own->has_copy) return;
     if (own->copy_folder >= 0) fault = errno == EWOULDBLOCK ? "another lagd has a bundle of this name there" : strerror(errno);
-    (void)say(own->carry->process, LOG_WARNING | ABOUT_HANDOVER, "no state is kept in %s, so a start after a reboot begins anew: %s", folder,
+    (void)say(own->carry->core->lines, LOG_WARNING | ABOUT_HANDOVER, "no state is kept in %s, so a start after a reboot begins anew: %s", folder,
         fault ? fault : strerror(errno));
     if (own->lock >= 0) close(own->lock);
     if (own->copy_folder >= 0) close(own->copy_folder);
@@ -478,7 +478,7 @@ void recall_state(struct state *own) {
     const char *fault = file ? take_over_state(own, file, is_copy) : NULL;
     if (!fault) return;
     *own->carry->process->inherited = (struct inherited){0};
-    (void)say(own->carry->process, LOG_WARNING | ABOUT_HANDOVER, "the state that the last daemon left is not used: %s", fault);
+    (void)say(own->carry->core->lines, LOG_WARNING | ABOUT_HANDOVER, "the state that the last daemon left is not used: %s", fault);
 }
 
 /* Whether there was no daemon for a moment only: what waits in sockets and in the TAP device is still of use. */

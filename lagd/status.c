@@ -103,13 +103,13 @@ static void send_report(struct control *control, struct caller *caller) {
     struct report *report = control->report;
     report->length = 0;
     report->refusal = NIW_OK;
-    read_views(control->process, &control->protocol->own_system, control->ports);
+    read_views(control->core, control->ports);
     CALL(control->plane->passing->count, control->plane->tap);
     if (strcmp(asked, "text") == 0) write_text(report, control);
     if (strcmp(asked, "config") == 0) write_config(report, control);
     if (strcmp(asked, "json") == 0) write_json(report, control);
     if (strcmp(asked, "metrics") == 0) write_metrics(report, control);
-    if (!is_done(control->process, report->refusal, report->refused) || control->process->broken) report->length = 0;
+    if (!is_done(control->core, report->refusal, report->refused) || control->core->broken) report->length = 0;
     caller->rest = report->length > 0 ? malloc(report->length) : NULL;
     caller->answer_length = report->length;
     if (!caller->rest) {
@@ -171,8 +171,8 @@ void tell_watchers(struct status *own, const char *text, size_t length, bool jso
 }
 
 /* Tells those who watch in JSON how a port is now, or the bundle, where `link` is null, by the report of `control`. */
-void tell_watchers_of(struct process *process, const struct control *control, const struct link *link) {
-    struct status *own = &process->status;
+void tell_watchers_of(struct core *core, const struct control *control, const struct link *link) {
+    struct status *own = core->lines->watchers;
     struct report *report = control->report;
     bool any = false;
     EACH_CALLER(caller, own) any = any || (caller->watches && caller->json);
@@ -180,7 +180,7 @@ void tell_watchers_of(struct process *process, const struct control *control, co
     report->length = 0;
     report->refusal = NIW_OK;
     write_json_event(report, control, link);
-    if (is_done(process, report->refusal, report->refused) && !process->broken)
+    if (is_done(core, report->refusal, report->refused) && !core->broken)
         tell_watchers(own, report->text, report->length, true);
 }
 

@@ -28,9 +28,9 @@ static uint32_t random_marker(void) {
 }
 
 /* Holds a port that nothing may use, whatever its link does, or lets it go; answers whether that is done. */
-bool apply_hold(struct process *process, struct niw_system *system, const struct link *link, bool down) {
+bool apply_hold(struct core *core, const struct link *link, bool down) {
     bool hold = ((link->held || link->leaving) && !link->emptying) || down;
-    return is_done(process, niw_hold(system, link->settings.number, hold), "niw_hold");
+    return is_done(core, niw_hold(&core->system, link->settings.number, hold), "niw_hold");
 }
 
 /* Puts a system into the empty handle, whose ports have their settings and keys of now: a warm one, where some of them were saved. */
@@ -43,23 +43,23 @@ static struct niw_made put_system(struct niw_system *own, const struct protocol 
     return niw_resume(own, config, protocol->aggregator_keys, protocol->aggregator_count, ports, slots, saved, count);
 }
 
-void apply_holds(struct process *process, struct niw_system *system, const struct ports *ports, bool down) {
+void apply_holds(struct core *core, const struct ports *ports, bool down) {
     EACH_LINK_AS_IS(link, ports)
-        if (!apply_hold(process, system, link, down)) return;
+        if (!apply_hold(core, link, down)) return;
 }
 
 /* Makes the system anew, with these ports as they were. One that the library refuses comes up as the others do. Answers how many are back. */
-size_t resume_system(struct process *process, struct niw_system *own, const struct protocol *protocol, struct niw_saved *saved, size_t count) {
-    if (count == 0 || !is_done(process, niw_free(own), "niw_free")) return 0;
-    struct niw_made made = put_system(own, protocol, saved, count);
+size_t resume_system(struct core *core, const struct protocol *protocol, struct niw_saved *saved, size_t count) {
+    if (count == 0 || !is_done(core, niw_free(&core->system), "niw_free")) return 0;
+    struct niw_made made = put_system(&core->system, protocol, saved, count);
     while (made.status == NIW_STALE || made.status == NIW_NOT_DISTRIBUTING) {
         size_t at = 0;
         while (at < count && saved[at].port != made.place) at++;
         if (at < count) memmove(saved + at, saved + at + 1, (count - at - 1) * sizeof *saved);
         count = at < count ? count - 1 : 0;
-        made = put_system(own, protocol, saved, count);
+        made = put_system(&core->system, protocol, saved, count);
     }
-    return is_done(process, made.status, "niw_resume") ? count : 0;
+    return is_done(core, made.status, "niw_resume") ? count : 0;
 }
 
 void make_system(struct protocol *protocol) {
@@ -72,27 +72,27 @@ void make_system(struct protocol *protocol) {
     keep_left_ports(protocol->process->inherited, protocol->ports, protocol->settings);
     protocol->ports->count = protocol->settings->port_count;
     protocol->aggregator_count = make_keys(&protocol->keys, protocol->ports, protocol->aggregator_keys);
-    if (!is_done(protocol->process, put_system(&protocol->own_system, protocol, NULL, 0).status, "niw_new")) return;
-    apply_holds(protocol->process, &protocol->own_system, protocol->ports, false);
-    read_views(protocol->process, &protocol->own_system, protocol->ports);
+    if (!is_done(protocol->core, put_system(&protocol->core->system, protocol, NULL, 0).status, "niw_new")) return;
+    apply_holds(protocol->core, protocol->ports, false);
+    read_views(protocol->core, protocol->ports);
 }
 
 static void send_due_of(struct protocol *protocol, struct link *link) {
     uint8_t frame[NIW_FRAME];
     for (;;) {
-        struct niw_sent due = niw_transmit(&protocol->own_system, link->settings.number, frame, sizeof frame);
-        if (!is_done(protocol->process, due.status, "niw_transmit") || !due.is) return;
+        struct niw_sent due = niw_transmit(&protocol->core->system, link->settings.number, frame, sizeof frame);
+        if (!is_done(protocol->core, due.status, "niw_transmit") || !due.is) return;
         if (due.what == NIW_SENT_MARKER)
             CALL(protocol->plane->carrying->send_marker, protocol->plane, link, frame);
         else
-            send_frame(protocol->process, &protocol->changes, link, frame);
+            send_frame(protocol->core, &protocol->changes, link, frame);
     }
 }
 
 /* Sends what is due: after each call that may change anything, since one about a port may make a frame due on another. */
 void send_due(struct protocol *protocol) {
     uint64_t due;
-    if (protocol->process->resuming || !is_told(protocol->process, niw_due(&protocol->own_system), "niw_due", &due)) return;
+    if (protocol->process->resuming || !is_told(protocol->core, niw_due(&protocol->core->system), "niw_due", &due)) return;
     for (uint16_t i = 0; i < protocol->ports->count; i++)
         if (due >> i & 1) send_due_of(protocol, &protocol->ports->links[i]);
 }
@@ -100,14 +100,14 @@ void send_due(struct protocol *protocol) {
 /* After calls that may have changed ports: what is due goes out, their views are read, and the plane looks at them again. */
 void settle_calls(struct protocol *protocol) {
     send_due(protocol);
-    read_views(protocol->process, &protocol->own_system, protocol->ports);
+    read_views(protocol->core, protocol->ports);
     protocol->plane->changed = true;
 }
 
 /* Sends again what did not go before this tick, if nothing newer was due since. */
-void send_again(struct process *process, struct changes *changes, struct ports *ports) {
+void send_again(struct core *core, struct changes *changes, struct ports *ports) {
     EACH_LINK(link, ports)
-        if (link->unsent && !link->tried) send_frame(process, changes, link, link->frame);
+        if (link->unsent && !link->tried) send_frame(core, changes, link, link->frame);
 }
 
 void set_link(struct protocol *protocol, struct link *link, bool up) {
@@ -122,29 +122,29 @@ void set_link(struct protocol *protocol, struct link *link, bool up) {
         CALL(protocol->plane->carrying->lose, protocol->plane, link);
     }
     if (protocol->process->resuming
-        || !is_done(protocol->process, niw_set_link(&protocol->own_system, link->settings.number, up), "niw_set_link"))
+        || !is_done(protocol->core, niw_set_link(&protocol->core->system, link->settings.number, up), "niw_set_link"))
         return;
     settle_calls(protocol);
-    (void)print_change(protocol->process, protocol, link);
+    (void)print_change(protocol->core, protocol, link);
 }
 
 void lose_link(struct protocol *protocol, struct link *link) {
     set_waiting(link, false);
     set_link(protocol, link, false);
     release_interface(protocol->plane, &protocol->process->store, link);
-    (void)print_change(protocol->process, protocol, link);
+    (void)print_change(protocol->core, protocol, link);
 }
 
 /* 100 ms passed; answers whether the library took that. Churn detection goes by what it tells of the ports then, and what failed of a link is
  * forgotten after a while. */
-bool pass_system_tick(struct process *process, struct niw_system *system, struct ports *ports) {
-    bool taken = is_done(process, niw_tick(system), "niw_tick");
+bool pass_system_tick(struct core *core, struct ports *ports) {
+    bool taken = is_done(core, niw_tick(&core->system), "niw_tick");
     if (!taken) return false;
-    read_views(process, system, ports);
+    read_views(core, ports);
     EACH_LINK(link, ports) {
         const struct niw_view *view = &link->view;
         uint32_t status = niw_churn_tick(&link->churn, view->up, view->state, view->partner_state);
-        taken = is_done(process, status, "niw_churn_tick") && taken;
+        taken = is_done(core, status, "niw_churn_tick") && taken;
         link->tried = false;
         if (link->trouble_ticks == 0 || --link->trouble_ticks > 0) continue;
         link->trouble = 0;
@@ -164,9 +164,9 @@ void tell_end(struct protocol *protocol) {
     uint16_t key = free_key(&protocol->keys, protocol->ports, 0, NULL);
     EACH_LINK(link, protocol->ports) {
         struct niw_change leave = {.key = key, .priority = link->settings.priority, .aggregatable = link->settings.aggregatable};
-        uint32_t status = niw_configure(&protocol->own_system, link->settings.number, &leave).status;
+        uint32_t status = niw_configure(&protocol->core->system, link->settings.number, &leave).status;
         expect_lacpdu(link);
-        link->to_tell = is_done(protocol->process, status, "niw_configure") && link->to_tell;
+        link->to_tell = is_done(protocol->core, status, "niw_configure") && link->to_tell;
     }
     send_due(protocol);
 }
@@ -181,7 +181,7 @@ bool end_is_told(const struct ports *ports) {
 /* Says of each port that the daemon has ended, and frees the system; answers whether the library never refused a call. */
 bool end_system(struct protocol *protocol) {
     EACH_LINK(link, protocol->ports)
-        if (link->used) (void)say(protocol->process, LOG_NOTICE | ABOUT_END, "port %u %s: ended", link->settings.number, link->name);
-    end_bundle(protocol->process, &protocol->bundle, protocol->control);
-    return is_done(protocol->process, niw_free(&protocol->own_system), "niw_free") && !protocol->process->broken;
+        if (link->used) (void)say(protocol->core->lines, LOG_NOTICE | ABOUT_END, "port %u %s: ended", link->settings.number, link->name);
+    end_bundle(protocol->core, &protocol->bundle, protocol->control);
+    return is_done(protocol->core, niw_free(&protocol->core->system), "niw_free") && !protocol->core->broken;
 }

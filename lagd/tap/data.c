@@ -3,14 +3,14 @@
 
 /* Has a frame wait until its conversation goes on. Where there is no room the oldest one of it is lost, or else this one. */
 static void hold_frame(struct carry *carry, struct held *held, uint16_t number, const uint8_t *packet, size_t length) {
-    bool kept = put_held(carry->process, held, number, carry->time, packet, length);
+    bool kept = put_held(carry->core, held, number, carry->time, packet, length);
     uint64_t waiting;
-    if (!kept && !carry->process->broken && drop_held(carry->process, held, number)) {
+    if (!kept && !carry->core->broken && drop_held(carry->core, held, number)) {
         carry->counts[QUEUE_FULL]++;
-        kept = put_held(carry->process, held, number, carry->time, packet, length);
+        kept = put_held(carry->core, held, number, carry->time, packet, length);
     }
     carry->counts[kept ? HELD_FRAMES : QUEUE_FULL]++;
-    if (count_held(carry->process, held, number, &waiting) && waiting > carry->counts[LONGEST_QUEUE]) carry->counts[LONGEST_QUEUE] = waiting;
+    if (count_held(carry->core, held, number, &waiting) && waiting > carry->counts[LONGEST_QUEUE]) carry->counts[LONGEST_QUEUE] = waiting;
 }
 
 /* What becomes of the next frame of a conversation: it waits, there is no port for it, or it goes on the port of the conversation. */
@@ -18,10 +18,10 @@ enum offered { WAITS, LOST, GOES };
 
 static enum offered offer_frame(struct carry *carry, struct conversation *conversation, uint16_t number) {
     if (carry->time < conversation->fast.not_before) return WAITS;
-    struct niw_number answer = niw_offer_conversation_in_active_aggregator(&carry->protocol->own_system, carry->active, number);
+    struct niw_number answer = niw_offer_conversation_in_active_aggregator(&carry->core->system, carry->active, number);
     if (answer.status == NIW_HELD) return WAITS;
     if (answer.status == NIW_NONE_DISTRIBUTING) return LOST;
-    if (!is_done(carry->process, answer.status, "niw_offer_conversation_in_active_aggregator")) return WAITS;
+    if (!is_done(carry->core, answer.status, "niw_offer_conversation_in_active_aggregator")) return WAITS;
     conversation->home = carry->active;
     conversation->port = (uint16_t)answer.number;
     conversation->since = 0;
@@ -41,7 +41,7 @@ void accept_from_host(struct tap_plane *tap, uint8_t *packet, size_t length) {
     uint64_t number;
     tap->carry->counts[FROM_HOST]++;
     if (length < head_octets() + ETH_HLEN
-        || !is_told(tap->process, conversation_of(tap->protocol, frame, length - head_octets()), "niw_conversation", &number)) {
+        || !is_told(tap->core, conversation_of(tap->protocol, frame, length - head_octets()), "niw_conversation", &number)) {
         tap->carry->counts[UNFIT]++;
         return;
     }
@@ -55,7 +55,7 @@ void accept_from_host(struct tap_plane *tap, uint8_t *packet, size_t length) {
     }
     if (tap->carry->active != 0) {
         conversation->used = true;
-        offered = none_held(tap->process, &tap->held, (uint16_t)number) ? offer_frame(tap->carry, conversation, (uint16_t)number) : WAITS;
+        offered = none_held(tap->core, &tap->held, (uint16_t)number) ? offer_frame(tap->carry, conversation, (uint16_t)number) : WAITS;
     }
     if (offered == WAITS) hold_frame(tap->carry, &tap->held, (uint16_t)number, packet, length);
     if (offered == GOES) send_by_port(tap, conversation, packet, length);
@@ -85,11 +85,11 @@ static bool offer_oldest_again(struct tap_plane *tap, struct conversation *conve
     if (offered == WAITS) return false;
     conversation->fast.touched = true;
     if (offered == LOST) {
-        bool dropped = drop_held(tap->process, &tap->held, number);
+        bool dropped = drop_held(tap->core, &tap->held, number);
         tap->carry->counts[NONE_CARRIES] += dropped;
         return dropped;
     }
-    uint8_t *packet = remove_held(tap->process, &tap->held, number, &length);
+    uint8_t *packet = remove_held(tap->core, &tap->held, number, &length);
     if (!packet) return false;
     conversation->used = true; /* from now on it is on its way */
     send_by_port(tap, conversation, packet, length);
@@ -100,10 +100,10 @@ static bool offer_oldest_again(struct tap_plane *tap, struct conversation *conve
 static void offer_held_again(struct tap_plane *tap) {
     uint64_t unseen; /* the frames of the conversations that were not looked at yet */
     bool any_left = false;
-    if (!count_all_held(tap->process, &tap->held, &unseen)) return;
+    if (!count_all_held(tap->core, &tap->held, &unseen)) return;
     for (uint16_t number = 0; unseen > 0 && number < CONVERSATIONS; number++) {
         uint64_t left;
-        any_left = !count_held(tap->process, &tap->held, number, &left) || any_left;
+        any_left = !count_held(tap->core, &tap->held, number, &left) || any_left;
         unseen -= left;
         while (left > 0 && offer_oldest_again(tap, &tap->carry->conversations[number], number)) left--;
         if (left > 0) any_left = true;

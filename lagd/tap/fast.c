@@ -185,17 +185,17 @@ static bool may_pass(struct tap_plane *tap, const struct conversation *conversat
     uint16_t port = conversation->port;
     struct niw_assignment state;
     return tap->fast.sender >= 0 && !tap->fast.queue_holds && tap->carry->active != 0 && conversation->home == tap->carry->active
-        && is_fast(&tap->members[port - 1]) && ask_state(tap->process, &tap->protocol->own_system, conversation->home, number_in(tap->carry, conversation), &state)
+        && is_fast(&tap->members[port - 1]) && ask_state(tap->core, conversation->home, number_in(tap->carry, conversation), &state)
         && state.what == NIW_CONVERSATION_ON && state.port == port;
 }
 
 /* Waits for the programs. Where the kernel does so no longer, the peers are told, and the daemon ends. */
 static void wait_or_end(struct tap_plane *tap) {
     if (wait_for_programs()) return;
-    (void)say(tap->process, LOG_ERR | ABOUT_DATA, "fast: the kernel waits no longer for its programs: %s; "
+    (void)say(tap->core->lines, LOG_ERR | ABOUT_DATA, "fast: the kernel waits no longer for its programs: %s; "
         "the peers are told, and the daemon ends",
         strerror(errno));
-    tap->process->broken = true;
+    tap->core->broken = true;
     end_fast(tap);
 }
 
@@ -237,7 +237,7 @@ static void resume_fast(struct tap_plane *tap) {
 
 /* Takes back what is no longer on the port where the kernel passes it on, before a marker goes there; all, where the library does not tell. */
 static void withdraw_moved(struct tap_plane *tap) {
-    bool told = ask_ports(tap->process, &tap->protocol->own_system, tap->carry->active, tap->carry->port_of);
+    bool told = ask_ports(tap->core, tap->carry->active, tap->carry->port_of);
     EACH_CONVERSATION(conversation, tap->carry) {
         uint16_t port = conversation->fast.port, now = told ? tap->carry->port_of[number_in(tap->carry, conversation)] : 0;
         if (port != 0 && (port != now || !is_fast(&tap->members[port - 1]))) clear_row(row_of(tap, conversation));
@@ -266,7 +266,7 @@ static void follow_host_discipline(struct tap_plane *tap, const char *discipline
     EACH_CONVERSATION(conversation, tap->carry)
         if (holds && conversation->fast.port != 0) clear_row(row_of(tap, conversation));
     settle_cleared(tap);
-    (void)say(tap->process, LOG_WARNING | ABOUT_DATA, "carry %s: its queueing discipline is %s: its data %s", tap->settings->carry,
+    (void)say(tap->core->lines, LOG_WARNING | ABOUT_DATA, "carry %s: its queueing discipline is %s: its data %s", tap->settings->carry,
         discipline, holds ? "stays with the daemon, since that discipline may hold frames" : "may go by the kernel");
 }
 
@@ -299,7 +299,7 @@ static void pass_on(struct tap_plane *tap) {
         subtract_segments(row, conversation, take_count(&row->overflowed) + conversation->fast.taken);
         conversation->fast.taken = 0;
         if (conversation->port != 0 && conversation->fast.port == 0
-            && none_held(tap->process, &tap->held, number_in(tap->carry, conversation)) && may_pass(tap, conversation))
+            && none_held(tap->core, &tap->held, number_in(tap->carry, conversation)) && may_pass(tap, conversation))
             name_member(row, conversation, tap->ports->links[conversation->port - 1].index);
     }
 }
@@ -322,7 +322,7 @@ static void confirm_loss(struct fast_row *row, struct conversation *conversation
  * put back. It only tells how many may wait, so a frame too many is lost by the kernel, which counts it. The order rests on the rows. */
 static void note_read(struct tap_plane *tap, unsigned packets, bool drained) {
     struct fast_programs *own = &tap->fast;
-    if (tap->process->broken) return;
+    if (tap->core->broken) return;
     int64_t left = __atomic_sub_fetch(&own->host->left, packets, __ATOMIC_SEQ_CST);
     if (drained && (left > MOST_BETWEEN || left < 0)) (void)__atomic_sub_fetch(&own->host->left, left, __ATOMIC_SEQ_CST);
     if (!drained || own->queue_holds) return;
@@ -360,8 +360,8 @@ static void pass_fast_tick(struct tap_plane *tap) {
     if (any) wait_or_end(tap);
 }
 
-static int check_fast(struct process *process, struct plane *plane UNUSED, const struct options *options) {
-    return check_programs(process, options, "fast", true);
+static int check_fast(struct lines *lines, struct plane *plane UNUSED, const struct options *options) {
+    return check_programs(lines, options, "fast", true);
 }
 
 const struct passing BY_KERNEL = {

@@ -7,9 +7,9 @@
 #define UNANSWERED 3000
 
 /* Whether the library tells that a port distributes, or that it does not. */
-bool is_told_distributing(struct process *process, struct niw_system *system, uint16_t port, bool wanted) {
-    struct niw_truth answer = niw_distributes(system, port);
-    return is_done(process, answer.status, "niw_distributes") && answer.is == wanted;
+bool is_told_distributing(struct core *core, uint16_t port, bool wanted) {
+    struct niw_truth answer = niw_distributes(&core->system, port);
+    return is_done(core, answer.status, "niw_distributes") && answer.is == wanted;
 }
 
 /* Frees what is held on a port that does not distribute with a partner, and had no frame, for longer than frames can be on their way. A link that
@@ -17,23 +17,23 @@ bool is_told_distributing(struct process *process, struct niw_system *system, ui
 static void watch_silent_port(struct carry *carry, uint16_t port, uint64_t *since) {
     const struct link *link = &carry->ports->links[port - 1];
     uint64_t held, freed;
-    bool holds = (link->view.defaulted || is_told_distributing(carry->process, &carry->protocol->own_system, port, false))
-        && is_told(carry->process, niw_held(&carry->protocol->own_system, port), "niw_held", &held) && held > 0;
+    bool holds = (link->view.defaulted || is_told_distributing(carry->core, port, false))
+        && is_told(carry->core, niw_held(&carry->core->system, port), "niw_held", &held) && held > 0;
     if (!holds || *since == 0) *since = holds ? carry->time : 0;
     if (!holds || carry->time - *since < carry->settings->flight) return;
     *since = 0;
-    if (!is_told(carry->process, niw_force_port(&carry->protocol->own_system, port), "niw_force_port", &freed)) return;
+    if (!is_told(carry->core, niw_force_port(&carry->core->system, port), "niw_force_port", &freed)) return;
     carry->counts[FORCED] += freed;
-    (void)say(carry->process, LOG_WARNING | ABOUT_DATA, "port %u %s: it carries no more, and %" PRIu64 " conversations leave it", port, link->name,
-        freed);
+    (void)say(carry->core->lines, LOG_WARNING | ABOUT_DATA, "port %u %s: it carries no more, and %" PRIu64 " conversations leave it", port,
+        link->name, freed);
 }
 
 /* Frees a conversation from the port that it is on, or that holds it since nobody answered its marker (`held`): nothing of it was sent for a
  * flight, so its next frame overtakes none. */
 static void free_conversation(struct carry *carry, struct conversation *conversation, uint16_t number, bool held) {
-    struct niw_system *system = &carry->protocol->own_system;
+    struct niw_system *system = &carry->core->system;
     uint32_t status = held ? niw_force(system, conversation->home, number) : niw_rest(system, conversation->home, number);
-    if (!is_done(carry->process, status, held ? "niw_force" : "niw_rest")) return;
+    if (!is_done(carry->core, status, held ? "niw_force" : "niw_rest")) return;
     if (held && conversation->home == carry->active && carry->probe.peer == ANSWERS) carry->probe.peer = NOT_ASKED; /* it did not answer in time */
     carry->counts[held ? FORCED : RESTED]++;
     carry->plane->changed = true;
@@ -46,7 +46,7 @@ static void watch_held(struct carry *carry, struct conversation *conversation, u
     bool held = is_held(state), answered = held && carry->probe.peer != MUTE && carry->settings->flight < UNANSWERED;
     if (conversation->since == 0) conversation->since = carry->time;
     if (carry->time - conversation->since < (answered ? UNANSWERED : carry->settings->flight)) return;
-    if (held && !is_told_distributing(carry->process, &carry->protocol->own_system, state->port, true)) return;
+    if (held && !is_told_distributing(carry->core, state->port, true)) return;
     free_conversation(carry, conversation, number, held);
 }
 
@@ -54,16 +54,16 @@ static void watch_conversation(struct carry *carry, struct held *held, uint16_t 
     struct conversation *conversation = &carry->conversations[number];
     struct niw_assignment state;
     uint64_t came, longest = carry->settings->flight + 1000u;
-    while (oldest_held(carry->process, held, number, &came) && carry->time - came >= longest
-        && drop_held(carry->process, held, number))
+    while (oldest_held(carry->core, held, number, &came) && carry->time - came >= longest
+        && drop_held(carry->core, held, number))
         carry->counts[HELD_TOO_LONG]++;
     if (conversation->used) conversation->last = carry->time;
     conversation->used = false;
-    if (conversation->home == 0 || !ask_state(carry->process, &carry->protocol->own_system, conversation->home, number, &state)) return;
+    if (conversation->home == 0 || !ask_state(carry->core, conversation->home, number, &state)) return;
     bool away = conversation->home != carry->active && carry->active != 0 && state.what == NIW_CONVERSATION_ON;
     if (state.what == NIW_CONVERSATION_FLUSHING && state.age > 0 && state.age % AGAIN_TICKS == 0)
         *again |= (uint64_t)1 << (state.port - 1);
-    if (is_held(&state) || (away && !none_held(carry->process, held, number))) {
+    if (is_held(&state) || (away && !none_held(carry->core, held, number))) {
         watch_held(carry, conversation, number, &state);
         return;
     }
@@ -76,8 +76,8 @@ static void watch_conversation(struct carry *carry, struct held *held, uint16_t 
 
 void pass_flight_tick(struct tap_plane *tap) {
     uint64_t again = 0;
-    for (uint16_t number = 0; !tap->process->broken && number < CONVERSATIONS; number++) watch_conversation(tap->carry, &tap->held, number, &again);
-    if (tap->process->broken) return;
+    for (uint16_t number = 0; !tap->core->broken && number < CONVERSATIONS; number++) watch_conversation(tap->carry, &tap->held, number, &again);
+    if (tap->core->broken) return;
     pass_probe_tick(tap);
     for (uint16_t port = 1; port <= tap->ports->count; port++) {
         watch_silent_port(tap->carry, port, &tap->silent_since[port - 1]);

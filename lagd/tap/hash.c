@@ -37,6 +37,6 @@ static uint64_t hash_of(const struct settings *settings, const struct frame *fra
 struct niw_number conversation_of(struct protocol *protocol, const uint8_t *frame, size_t length) {
     const struct frame whole = {frame, length};
     if (protocol->settings->hash == HASH_LAYER2 || length < ETH_HLEN)
-        return niw_conversation(&protocol->own_system, frame, length < LONGEST_SHOWN ? length : LONGEST_SHOWN);
+        return niw_conversation(&protocol->core->system, frame, length < LONGEST_SHOWN ? length : LONGEST_SHOWN);
     return (struct niw_number){.status = NIW_OK, .number = conversation_in(hash_of(protocol->settings, &whole))};
 }

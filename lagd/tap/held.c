@@ -36,20 +36,20 @@ static size_t slot_octets(size_t room) {
 }
 
 /* Takes all memory. Its pages are in use once they are written. */
-void start_held(struct process *process, struct held *own) {
+void start_held(struct core *core, struct held *own) {
     own->small = (struct pool){.octets = slot_octets(SMALL_ROOM), .most = MOST_WAIT};
     own->large = (struct pool){.octets = slot_octets(packet_room()), .most = MOST_LARGE};
     size_t before = own->small.octets * MOST_WAIT, behind = own->large.octets * MOST_LARGE;
     own->small.slots = mmap(NULL, before + behind, PROT_READ | PROT_WRITE, MAP_PRIVATE | MAP_ANONYMOUS | MAP_NORESERVE, -1, 0);
     if (own->small.slots == MAP_FAILED) stop(REFUSED, "no room for held frames", strerror(errno));
     own->large.slots = own->small.slots + before;
-    if (!is_done(process, niw_queue_new(&own->queues, CONVERSATIONS, MOST_WAIT, MOST_OF_ONE), "niw_queue_new")) return;
+    if (!is_done(core, niw_queue_new(&own->queues, CONVERSATIONS, MOST_WAIT, MOST_OF_ONE), "niw_queue_new")) return;
     own->octets = before + behind;
 }
 
 /* The daemon ends: once the library has no number of a slot, the memory goes back. */
-void end_held(struct process *process, struct held *own) {
-    if (own->octets == 0 || !is_done(process, niw_queue_free(&own->queues), "niw_queue_free")) return;
+void end_held(struct core *core, struct held *own) {
+    if (own->octets == 0 || !is_done(core, niw_queue_free(&own->queues), "niw_queue_free")) return;
     (void)munmap(own->small.slots, own->octets);
     own->octets = 0;
 }
@@ -70,47 +70,47 @@ static void free_slot(struct held *own, uint32_t at) {
 }
 
 /* Writes how many frames of a conversation wait; answers whether that is known. While no frame waits at all, the library is not asked. */
-bool count_held(struct process *process, struct held *own, uint16_t number, uint64_t *waiting) {
+bool count_held(struct core *core, struct held *own, uint16_t number, uint64_t *waiting) {
     *waiting = 0;
-    return !own->any_waits || is_told(process, niw_queue_waiting(&own->queues, number), "niw_queue_waiting", waiting);
+    return !own->any_waits || is_told(core, niw_queue_waiting(&own->queues, number), "niw_queue_waiting", waiting);
 }
 
-bool none_held(struct process *process, struct held *own, uint16_t number) {
+bool none_held(struct core *core, struct held *own, uint16_t number) {
     uint64_t waiting;
-    return count_held(process, own, number, &waiting) && waiting == 0;
+    return count_held(core, own, number, &waiting) && waiting == 0;
 }
 
-bool count_all_held(struct process *process, struct held *own, uint64_t *waiting) {
+bool count_all_held(struct core *core, struct held *own, uint64_t *waiting) {
     struct niw_counts counts = niw_queue_counts(&own->queues);
     *waiting = counts.waiting;
-    return is_done(process, counts.status, "niw_queue_counts");
+    return is_done(core, counts.status, "niw_queue_counts");
 }
 
 unsigned count_frames_waiting(struct plane *plane) {
     uint64_t waiting;
-    return count_all_held(plane->tap->process, &plane->tap->held, &waiting) ? (unsigned)waiting : 0;
+    return count_all_held(plane->tap->core, &plane->tap->held, &waiting) ? (unsigned)waiting : 0;
 }
 
 /* The slot of a frame that the library tells, or NONE where it tells none. */
-static uint32_t slot_told(struct process *process, const struct niw_queued *queued, const char *call) {
-    return is_done(process, queued->status, call) && queued->is ? (uint32_t)queued->frame : NONE;
+static uint32_t slot_told(struct core *core, const struct niw_queued *queued, const char *call) {
+    return is_done(core, queued->status, call) && queued->is ? (uint32_t)queued->frame : NONE;
 }
 
 /* Writes the time at which the oldest frame of a conversation came; answers whether one waits. */
-bool oldest_held(struct process *process, struct held *own, uint16_t number, uint64_t *came) {
+bool oldest_held(struct core *core, struct held *own, uint16_t number, uint64_t *came) {
     if (!own->any_waits) return false;
     struct niw_queued queued = niw_queue_oldest(&own->queues, number);
-    uint32_t at = slot_told(process, &queued, "niw_queue_oldest");
+    uint32_t at = slot_told(core, &queued, "niw_queue_oldest");
     if (at != NONE) *came = slot_of(own, at)->came;
     return at != NONE;
 }
 
 /* Puts a packet that came at a time behind those of its conversation; answers whether there was room. */
-bool put_held(struct process *process, struct held *own, uint16_t number, uint64_t came, const uint8_t *packet, size_t length) {
+bool put_held(struct core *core, struct held *own, uint16_t number, uint64_t came, const uint8_t *packet, size_t length) {
     uint32_t at = claim_slot(own, length > SMALL_ROOM ? &own->large : &own->small);
     if (at == NONE) return false;
     uint32_t status = niw_queue_put(&own->queues, number, at);
-    if (status == NIW_CONVERSATION_FULL || status == NIW_ALL_FULL || !is_done(process, status, "niw_queue_put")) {
+    if (status == NIW_CONVERSATION_FULL || status == NIW_ALL_FULL || !is_done(core, status, "niw_queue_put")) {
         free_slot(own, at);
         return false;
     }
@@ -123,17 +123,17 @@ bool put_held(struct process *process, struct held *own, uint16_t number, uint64
 }
 
 /* Loses the oldest frame of a conversation; answers whether one waits. */
-bool drop_held(struct process *process, struct held *own, uint16_t number) {
+bool drop_held(struct core *core, struct held *own, uint16_t number) {
     struct niw_queued queued = niw_queue_drop(&own->queues, number);
-    uint32_t at = slot_told(process, &queued, "niw_queue_drop");
+    uint32_t at = slot_told(core, &queued, "niw_queue_drop");
     if (at != NONE) free_slot(own, at);
     return at != NONE;
 }
 
 /* Takes the oldest frame of a conversation out, to be sent; answers NULL where none is told. Its packet stays there until free_left. */
-uint8_t *remove_held(struct process *process, struct held *own, uint16_t number, size_t *length) {
+uint8_t *remove_held(struct core *core, struct held *own, uint16_t number, size_t *length) {
     struct niw_queued queued = niw_queue_next(&own->queues, number);
-    uint32_t at = slot_told(process, &queued, "niw_queue_next");
+    uint32_t at = slot_told(core, &queued, "niw_queue_next");
     if (at == NONE) return NULL;
     struct slot *slot = slot_of(own, at);
     slot->next = own->leaving;

@@ -13,26 +13,26 @@
 void lose_device(struct plane *plane) {
     struct tap_plane *tap = plane->tap;
     struct host *own = &tap->host;
-    if (tap->process->broken) return;
-    tap->process->broken = true;
+    if (tap->core->broken) return;
+    tap->core->broken = true;
     CALL(plane->passing->end, tap);
     tap->device->index = 0;
     tap->device->carrier = false;
     drop_stored(&tap->process->store, "tap", 0);
     if (own->tap >= 0) await_no_more(tap->process->epoll_file, own->tap);
-    (void)say(tap->process, LOG_ERR | ABOUT_CARRIER, "carry %s: the device was deleted, or moved to another namespace; "
+    (void)say(tap->core->lines, LOG_ERR | ABOUT_CARRIER, "carry %s: the device was deleted, or moved to another namespace; "
         "the peers are told, and the daemon ends", tap->settings->carry);
 }
 
-bool is_cutting(const struct process *process, const struct host *own) {
-    return own->count > 0 && !process->broken;
+bool is_cutting(const struct core *core, const struct host *own) {
+    return own->count > 0 && !core->broken;
 }
 
 /* Takes up to `most` segments of a packet from this one on; answers how many. */
 static unsigned cut_segments(struct tap_plane *tap, const struct cut *cut, uint32_t from, unsigned most) {
     struct host *own = &tap->host;
     unsigned taken = 0;
-    for (; taken < most && from + taken < cut->count && !tap->process->broken; taken++) {
+    for (; taken < most && from + taken < cut->count && !tap->core->broken; taken++) {
         uint8_t *packet = room_at(own->segments, taken % BATCH);
         if (taken > 0 && taken % BATCH == 0) flush_data(tap);
         accept_from_host(tap, packet, put_segment(cut, from + taken, packet));
@@ -75,7 +75,7 @@ static unsigned accept_whole(struct tap_plane *tap, uint8_t *packet, size_t leng
 /* Takes of the packets that wait, the oldest ones first, so many segments at most. */
 static void cut_waiting(struct tap_plane *tap, unsigned most) {
     struct host *own = &tap->host;
-    for (unsigned taken = 0; taken < most && is_cutting(tap->process, &tap->host);) {
+    for (unsigned taken = 0; taken < most && is_cutting(tap->core, &tap->host);) {
         struct uncut *uncut = &own->waiting[own->first];
         if (uncut->cut.count > 0 && uncut->next == 0) tap->carry->counts[SEGMENTED]++;
         unsigned now = uncut->cut.count > 0 ? cut_segments(tap, &uncut->cut, uncut->next, most - taken)
@@ -96,7 +96,7 @@ static unsigned accept_in_turn(struct tap_plane *tap, uint8_t *packet, size_t le
     size_t head = head_octets();
     if (length < head + ETH_HLEN) return accept_whole(tap, packet, length);
     bool is_long = has_segments(packet) && read_cut(packet, length, &cut) && cut.count > MOST_AT_ONCE;
-    if (!is_long && !is_cutting(tap->process, &tap->host)) return accept_whole(tap, packet, length);
+    if (!is_long && !is_cutting(tap->core, &tap->host)) return accept_whole(tap, packet, length);
     struct niw_number told = conversation_of(tap->protocol, packet + head, length - head);
     uint16_t number = (uint16_t)(told.number % CONVERSATIONS);
     if (told.status != NIW_OK || (!is_long && tap->host.of_one[number] == 0)) return accept_whole(tap, packet, length);
@@ -106,10 +106,10 @@ static unsigned accept_in_turn(struct tap_plane *tap, uint8_t *packet, size_t le
 
 /* Takes one packet of the TAP device; answers how many frames it has, or 0 where there is none. */
 static unsigned read_next(struct tap_plane *tap, uint8_t *packet) {
-    if (tap->process->broken) return 0;
+    if (tap->core->broken) return 0;
     ssize_t length = read(tap->host.tap, packet, packet_room());
     if (length < 0 && (errno == EBADFD || errno == EIO || errno == ENODEV)) lose_device(tap->plane);
-    if (length < 0 && (tap->process->broken || errno == EAGAIN || errno == EINTR)) return 0;
+    if (length < 0 && (tap->core->broken || errno == EAGAIN || errno == EINTR)) return 0;
     if (length >= (ssize_t)head_octets() && !tap->plane->segments) return accept_in_turn(tap, packet, (size_t)length);
     accept_from_host(tap, packet, length < 0 ? 0 : (size_t)length); /* one that cannot be read has no octets */
     return 1;
@@ -127,19 +127,19 @@ void read_host(struct tap_plane *tap) {
     flush_data(tap);
     cut_waiting(tap, MOST_CUT);
     flush_data(tap);
-    if (left == 0 || is_cutting(tap->process, &tap->host)) tap->carry->more_waits = true;
+    if (left == 0 || is_cutting(tap->core, &tap->host)) tap->carry->more_waits = true;
     CALL(tap->plane->passing->note_read, tap, got, left > 0);
     CALL(tap->plane->passing->pass_on, tap);
 }
 
 /* Hands a packet up, which lies in parts; answers whether the device took it. */
-bool give_host(const struct process *process, int tap, const struct iovec *parts, unsigned count, size_t length) {
-    return !process->broken && writev(tap, parts, (int)count) == (ssize_t)length;
+bool give_host(const struct core *core, int tap, const struct iovec *parts, unsigned count, size_t length) {
+    return !core->broken && writev(tap, parts, (int)count) == (ssize_t)length;
 }
 
 /* Serves what is ready: a member, or the TAP device, whose frames come after what was released. */
 void serve_data(struct tap_plane *tap, uint32_t tag) {
-    if (tap->process->broken) return;
+    if (tap->core->broken) return;
     if (tag == RESPONSES) serve_answers(tap);
     if (tag >= MEMBERS && tag < RESPONSES) {
         receive_data(tap, &tap->ports->links[tag - MEMBERS]);
@@ -161,13 +161,13 @@ void open_tap_plane(struct plane *plane) {
     own->packets = make_rooms();
     own->segments = make_rooms();
     own->rooms = make_rooms();
-    start_held(tap->process, &tap->held);
+    start_held(tap->core, &tap->held);
     tap->rooms = make_rooms();
     tap->dropper = load_program(tap->settings, "dropper", NULL, NULL);
     CALL(plane->queueing->start, tap);
     need(on_exit(put_back_members, tap) == 0, "on_exit");
     own->tap = open_tap(tap->device, tap->settings->carry, tap->settings->config.mac);
-    stop_device_rps(tap->process, tap->device->index);
+    stop_device_rps(tap->core->lines, tap->device->index);
     CALL(plane->passing->start, tap);
     if (!await_input(tap->process->epoll_file, own->tap, HOST)) stop(REFUSED, "epoll", strerror(errno));
 }
@@ -178,7 +178,7 @@ void end_tap_plane(struct plane *plane) {
     set_carrier(tap->device, false);
     remove_all_members(plane, tap->ports);
     CALL(plane->passing->end, tap);
-    end_held(tap->process, &tap->held);
+    end_held(tap->core, &tap->held);
 }
 
 void remove_all_members(struct plane *plane, const struct ports *ports) {

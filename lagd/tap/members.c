@@ -165,7 +165,7 @@ static bool renew_member(struct tap_plane *tap, struct link *link) {
 }
 
 static bool tell_and_renew(struct tap_plane *tap, struct link *link) {
-    (void)say(tap->process, LOG_NOTICE | ABOUT_DATA, "port %u %s: its queues were changed", link->settings.number, link->name);
+    (void)say(tap->core->lines, LOG_NOTICE | ABOUT_DATA, "port %u %s: its queues were changed", link->settings.number, link->name);
     return renew_member(tap, link);
 }
 
@@ -182,7 +182,7 @@ static bool renew_for_discipline(struct plane *plane, struct link *link) {
     struct member *member = member_of(tap, link);
     if (!is_open(member)) return true;
     if (plane->renews) return renew_member(tap, link);
-    look_at_discipline(tap->process, plane, link, &member->guard);
+    look_at_discipline(tap->core->lines, plane, link, &member->guard);
     return set_bypass(member->sockets[DATA], &member->guard);
 }
 
@@ -312,7 +312,7 @@ void put_data(struct tap_plane *tap, uint16_t port, uint16_t number, uint8_t *pa
 }
 
 /* Gives the kernel a marker for a member, as the message has it beside the frame; answers whether it took it. */
-bool give_marker(struct process *process, const struct member *member, struct link *link, const uint8_t *marker, struct msghdr *message) {
+bool give_marker(struct core *core, const struct member *member, struct link *link, const uint8_t *marker, struct msghdr *message) {
     uint8_t sent[sizeof(struct virtio_net_hdr) + NIW_FRAME] = {0};
     struct iovec part = {sent, head_octets() + NIW_FRAME};
     message->msg_iov = &part;
@@ -320,12 +320,12 @@ bool give_marker(struct process *process, const struct member *member, struct li
     memcpy(sent + head_octets(), marker, NIW_FRAME);
     memcpy(sent + head_octets() + ETH_ALEN, link->mac, ETH_ALEN);
     if (!is_open(member) || sendmsg(member->sockets[DATA], message, 0) != (ssize_t)part.iov_len) return false;
-    return is_done(process, niw_count_sent(&link->counters, marker, NIW_FRAME), "niw_count_sent");
+    return is_done(core, niw_count_sent(&link->counters, marker, NIW_FRAME), "niw_count_sent");
 }
 
 static bool send_by_one_queue(struct tap_plane *tap, struct link *link, const uint8_t *marker, bool again UNUSED) {
     struct msghdr message = {0};
-    return give_marker(tap->process, member_of(tap, link), link, marker, &message);
+    return give_marker(tap->core, member_of(tap, link), link, marker, &message);
 }
 
 /* Sends a marker behind the data of its port, by the same socket: by another one, of another priority, it would overtake them. What the
@@ -361,7 +361,7 @@ static void accept_response_of_queue(struct tap_plane *tap, struct link *link, c
     struct arrival last = {frame, sizeof frame, arrival->packet_type, arrival->index, arrival->tagged};
     if (!note_queue_response(&tap->queues[link->settings.number - 1], &id)) {
         uint32_t status = niw_count_received(&link->counters, arrival->frame, arrival->length, NIW_RECEIVED_RELEASED);
-        (void)!is_done(tap->process, status, "niw_count_received");
+        (void)!is_done(tap->core, status, "niw_count_received");
         return;
     }
     memcpy(frame, arrival->frame, sizeof frame);
@@ -373,8 +373,8 @@ static void accept_data(struct tap_plane *tap, const struct link *link, uint8_t 
     const uint8_t *frame = packet + head_octets();
     uint8_t response[NIW_FRAME];
     size_t shown = length - head_octets() < LONGEST_SHOWN ? length - head_octets() : LONGEST_SHOWN;
-    struct niw_received received = niw_receive(&tap->protocol->own_system, link->settings.number, frame, shown, response, sizeof response);
-    if (is_done(tap->process, received.status, "niw_receive") && received.what == NIW_RECEIVED_HANDED_UP)
+    struct niw_received received = niw_receive(&tap->core->system, link->settings.number, frame, shown, response, sizeof response);
+    if (is_done(tap->core, received.status, "niw_receive") && received.what == NIW_RECEIVED_HANDED_UP)
         hand_up_frame(tap, received.number, packet, length);
     else
         member_of(tap, link)->counts[UNCOLLECTED]++;
@@ -443,7 +443,7 @@ static void receive_packets(struct tap_plane *tap, struct link *link, enum socke
 static void drain_member(struct plane *plane, struct link *link) {
     struct tap_plane *tap = plane->tap;
     bool more = is_open(member_of(tap, link));
-    for (unsigned turn = 0; more && turn < MOST_DRAINED && !tap->process->broken; turn++) {
+    for (unsigned turn = 0; more && turn < MOST_DRAINED && !tap->core->broken; turn++) {
         tap->carry->more_waits = false;
         receive_data(tap, link);
         more = tap->carry->more_waits;
@@ -456,8 +456,8 @@ void receive_data(struct tap_plane *tap, struct link *link) {
         if (member->sockets[kind] >= 0) receive_packets(tap, link, kind);
 }
 
-static int check_tap(struct process *process, struct plane *plane UNUSED, const struct options *options) {
-    return access("/dev/net/tun", F_OK) == 0 ? DONE : tell_lack(process, options, "carry", "there is no /dev/net/tun", REFUSED);
+static int check_tap(struct lines *lines, struct plane *plane UNUSED, const struct options *options) {
+    return access("/dev/net/tun", F_OK) == 0 ? DONE : tell_lack(lines, options, "carry", "there is no /dev/net/tun", REFUSED);
 }
 
 const struct carrying TAP_DEVICE = {
@@ -477,8 +477,8 @@ const struct queueing ONE_QUEUE = {
     .markers_at_once = 1,
 };
 
-static int check_all_queues(struct process *process, struct plane *plane UNUSED, const struct options *options) {
-    return check_programs(process, options, "queues", false);
+static int check_all_queues(struct lines *lines, struct plane *plane UNUSED, const struct options *options) {
+    return check_programs(lines, options, "queues", false);
 }
 
 const struct queueing ALL_QUEUES = {

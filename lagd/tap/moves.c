@@ -5,18 +5,18 @@
 static bool none_moves(struct carry *carry) {
     uint64_t held;
     for (uint16_t i = 0; i < carry->active_count; i++)
-        if (!is_told(carry->process, niw_held(&carry->protocol->own_system, carry->active_ports[i]), "niw_held", &held) || held > 0)
+        if (!is_told(carry->core, niw_held(&carry->core->system, carry->active_ports[i]), "niw_held", &held) || held > 0)
             return false;
     return true;
 }
 
 static bool move_conversation(struct carry *carry, uint16_t number, uint16_t port) {
-    uint32_t status = niw_move_conversation(&carry->protocol->own_system, carry->active, number, port);
+    uint32_t status = niw_move_conversation(&carry->core->system, carry->active, number, port);
     if (status >= NIW_HELD && status <= NIW_MARKERS_SPENT) return false;
-    if (!is_done(carry->process, status, "niw_move_conversation")) return false;
+    if (!is_done(carry->core, status, "niw_move_conversation")) return false;
     carry->conversations[number].port = port;
     carry->counts[MOVES]++;
-    return ask_ports(carry->process, &carry->protocol->own_system, carry->active, carry->port_of);
+    return ask_ports(carry->core, carry->active, carry->port_of);
 }
 
 static uint16_t port_behind(const struct carry *carry, uint16_t port) {
@@ -46,7 +46,7 @@ static bool level_loads(struct carry *carry) {
         carried[number] = (struct niw_carried){carry->port_of[number], is_busy(carry, &carry->conversations[number])};
     for (;;) {
         struct niw_move next = niw_next_move(carry->active_ports, carry->active_count, carried, CONVERSATIONS);
-        if (!is_done(carry->process, next.status, "niw_next_move") || !next.is || !move_conversation(carry, next.conversation, next.port)) return any;
+        if (!is_done(carry->core, next.status, "niw_next_move") || !next.is || !move_conversation(carry, next.conversation, next.port)) return any;
         carried[next.conversation].port = next.port;
         any = true;
     }
@@ -64,7 +64,7 @@ bool empty_port(struct plane *plane, const struct link *link) {
     uint16_t port = link->settings.number;
     unsigned loads[NIW_MOST_PORTS + 1] = {0};
     uint64_t load, held;
-    if (!can_empty(plane, link) || !ask_ports(carry->process, &carry->protocol->own_system, carry->active, carry->port_of)) return true;
+    if (!can_empty(plane, link) || !ask_ports(carry->core, carry->active, carry->port_of)) return true;
     for (uint16_t number = 0; number < CONVERSATIONS; number++) loads[carry->port_of[number]]++;
     for (uint16_t number = 0; number < CONVERSATIONS; number++) {
         if (carry->port_of[number] != port) continue;
@@ -74,8 +74,8 @@ bool empty_port(struct plane *plane, const struct link *link) {
         if (move_conversation(carry, number, other)) loads[other]++;
     }
     send_due(carry->protocol);
-    return is_told(carry->process, niw_load(&carry->protocol->own_system, port), "niw_load", &load) && load == 0
-        && is_told(carry->process, niw_held(&carry->protocol->own_system, port), "niw_held", &held) && held == 0;
+    return is_told(carry->core, niw_load(&carry->core->system, port), "niw_load", &load) && load == 0
+        && is_told(carry->core, niw_held(&carry->core->system, port), "niw_held", &held) && held == 0;
 }
 
 /* Moves what has to move, once a tick, towards a peer that answers markers: one marker of a port tells of all that leave it. */
@@ -83,7 +83,7 @@ void balance(struct carry *carry) {
     EACH_LINK_AS_IS(link, carry->ports)
         if (link->emptying) return;
     if (carry->active_count < 2 || carry->probe.peer != ANSWERS || !none_moves(carry)
-        || !ask_ports(carry->process, &carry->protocol->own_system, carry->active, carry->port_of))
+        || !ask_ports(carry->core, carry->active, carry->port_of))
         return;
     if (move_asked(carry) || level_loads(carry)) send_due(carry->protocol);
 }

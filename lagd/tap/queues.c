@@ -46,7 +46,7 @@ void set_identifier(uint8_t *frame, uint32_t id) {
 }
 
 /* Sends the marker of a flight by each queue that has no response yet; answers whether all went. */
-static bool send_flight(struct process *process, const struct member *member, struct link *link, struct queues *queues, const struct flight *flight,
+static bool send_flight(struct core *core, const struct member *member, struct link *link, struct queues *queues, const struct flight *flight,
     const uint8_t *marker) {
     uint8_t frame[NIW_FRAME];
     bool done = true;
@@ -56,7 +56,7 @@ static bool send_flight(struct process *process, const struct member *member, st
         if (!(flight->waiting >> queue & 1)) continue;
         set_identifier(frame, (flight->id & IDENTIFIER_BITS) | (uint32_t)queue << QUEUE_SHIFT);
         set_mark(queues, queue, &message);
-        done = give_marker(process, member, link, frame, &message) && done;
+        done = give_marker(core, member, link, frame, &message) && done;
     }
     return done;
 }
@@ -107,10 +107,10 @@ bool send_by_queues(struct tap_plane *tap, struct link *link, const uint8_t *mar
         struct flight *place = next_flight(queues);
         *place = (struct flight){read32(marker + IDENTIFIER_AT), waiting, tap->carry->time, queues->sent++};
         queues->dirty = 0;
-        return send_flight(tap->process, member, link, queues, place, marker);
+        return send_flight(tap->core, member, link, queues, place, marker);
     }
     end_old_flights(queues, tap->carry->time);
-    for (size_t i = 0; i < MOST_FLIGHTS; i++) done = send_flight(tap->process, member, link, queues, &queues->flights[i], marker) && done;
+    for (size_t i = 0; i < MOST_FLIGHTS; i++) done = send_flight(tap->core, member, link, queues, &queues->flights[i], marker) && done;
     return done;
 }
 

@@ -149,7 +149,7 @@ static bool continues_stream(const struct gro *own, const uint8_t *packet, const
 }
 
 /* Hands up as one what waits; answers whether the device took it. */
-static bool give_all(const struct process *process, int tap, const struct gro *own) {
+static bool give_all(const struct core *core, int tap, const struct gro *own) {
     const struct tcp_packet *all = &own->all;
     const uint8_t *first = own->packets[0].iov_base, *last = own->packets[own->count - 1].iov_base;
     bool six = has_ipv6(first, all);
@@ -168,13 +168,13 @@ static bool give_all(const struct process *process, int tap, const struct gro *o
         uint8_t *packet = own->packets[i].iov_base;
         parts[1 + i] = (struct iovec){packet + all->payload, own->packets[i].iov_len - all->payload};
     }
-    return give_host(process, tap, parts, 1 + own->count, all->length);
+    return give_host(core, tap, parts, 1 + own->count, all->length);
 }
 
 void flush_host(struct tap_plane *tap) {
     struct gro *own = &tap->gro;
-    unsigned given = own->count > 1 && give_all(tap->process, tap->host.tap, own) ? own->count : 0, first = given;
-    for (unsigned i = first; i < own->count; i++) given += give_host(tap->process, tap->host.tap, &own->packets[i], 1, own->packets[i].iov_len);
+    unsigned given = own->count > 1 && give_all(tap->core, tap->host.tap, own) ? own->count : 0, first = given;
+    for (unsigned i = first; i < own->count; i++) given += give_host(tap->core, tap->host.tap, &own->packets[i], 1, own->packets[i].iov_len);
     tap->carry->counts[HANDED_UP] += given;
     tap->carry->counts[HOST_UNTAKEN] += own->count - given;
     own->count = 0;

@@ -204,8 +204,8 @@ void lose_data(struct plane *plane, const struct link *link);
 void open_tap_plane(struct plane *plane);
 void end_tap_plane(struct plane *plane);
 void read_host(struct tap_plane *tap);
-bool is_cutting(const struct process *process, const struct host *host);
-bool give_host(const struct process *process, int tap, const struct iovec *parts, unsigned count, size_t length);
+bool is_cutting(const struct core *core, const struct host *host);
+bool give_host(const struct core *core, int tap, const struct iovec *parts, unsigned count, size_t length);
 
 /* traffic.c: queueing disciplines and classifiers of members */
 bool keeps_order(const char *discipline);
@@ -221,7 +221,7 @@ void drop_classifier(int index);
 
 /* guard.c */
 unsigned count_sending_queues(int index);
-void stop_device_rps(struct process *process, int index);
+void stop_device_rps(struct lines *lines, int index);
 void start_all_queues(struct tap_plane *tap);
 bool choose_usual_queues(unsigned *usual, const struct member *members, uint16_t count, unsigned queues);
 bool is_changed_by_others(uint64_t seconds, const struct link *link, const struct guard *guard);
@@ -231,7 +231,7 @@ void keep_from_stack(struct tap_plane *tap, const struct link *link, struct guar
 void run_fast_programs(struct tap_plane *tap, const struct link *link, struct guard *guard);
 bool set_one_queue(struct tap_plane *tap, struct link *link, struct guard *guard, bool again);
 bool set_all_queues(struct tap_plane *tap, struct link *link, struct guard *guard, bool again);
-void look_at_discipline(struct process *process, const struct plane *plane, struct link *link, struct guard *guard);
+void look_at_discipline(struct lines *lines, const struct plane *plane, struct link *link, struct guard *guard);
 void reopen_guard(struct tap_plane *tap, struct link *link, struct guard *guard);
 void close_guard(struct process *process, struct fast_programs *fast, const struct link *link, struct guard *guard);
 void put_back_former(struct process *process, struct fast_programs *fast, const struct inherited_link *was);
@@ -240,7 +240,7 @@ void put_back_former(struct process *process, struct fast_programs *fast, const 
 extern const struct carrying TAP_DEVICE;
 extern const struct queueing ONE_QUEUE, ALL_QUEUES;
 void send_new_marker(struct plane *plane, struct link *link, const uint8_t *frame);
-bool give_marker(struct process *process, const struct member *member, struct link *link, const uint8_t *marker, struct msghdr *message);
+bool give_marker(struct core *core, const struct member *member, struct link *link, const uint8_t *marker, struct msghdr *message);
 unsigned member_queues(const struct member *member);
 void put_back_members(int status, void *given);
 bool is_fast(const struct member *member);
@@ -293,16 +293,16 @@ void close_fast_receiver(struct fast_programs *own, const struct link *link);
 int fast_member_of(const struct plane *plane, uint16_t number);
 
 /* held.c */
-void start_held(struct process *process, struct held *own);
-void end_held(struct process *process, struct held *own);
-bool count_held(struct process *process, struct held *own, uint16_t number, uint64_t *waiting) MUST_USE;
-bool none_held(struct process *process, struct held *own, uint16_t number);
-bool count_all_held(struct process *process, struct held *own, uint64_t *waiting) MUST_USE;
+void start_held(struct core *core, struct held *own);
+void end_held(struct core *core, struct held *own);
+bool count_held(struct core *core, struct held *own, uint16_t number, uint64_t *waiting) MUST_USE;
+bool none_held(struct core *core, struct held *own, uint16_t number);
+bool count_all_held(struct core *core, struct held *own, uint64_t *waiting) MUST_USE;
 unsigned count_frames_waiting(struct plane *plane);
-bool oldest_held(struct process *process, struct held *own, uint16_t number, uint64_t *came);
-bool put_held(struct process *process, struct held *own, uint16_t number, uint64_t came, const uint8_t *packet, size_t length);
-bool drop_held(struct process *process, struct held *own, uint16_t number) MUST_USE;
-uint8_t *remove_held(struct process *process, struct held *own, uint16_t number, size_t *length);
+bool oldest_held(struct core *core, struct held *own, uint16_t number, uint64_t *came);
+bool put_held(struct core *core, struct held *own, uint16_t number, uint64_t came, const uint8_t *packet, size_t length);
+bool drop_held(struct core *core, struct held *own, uint16_t number) MUST_USE;
+uint8_t *remove_held(struct core *core, struct held *own, uint16_t number, size_t *length);
 void free_left(struct held *own);
 
 #endif

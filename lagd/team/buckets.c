@@ -59,7 +59,7 @@ static void look_at_driver(struct team_plane *team) {
     team->looked_at = team->carry->time;
     if (!ask_interface(team->device->index, NULL, &device) || !read_team(team->family, team->device->index, &now)) {
         if (++team->unseen == MOST_UNSEEN)
-            (void)say(team->process, LOG_WARNING | ABOUT_DATA,
+            (void)say(team->core->lines, LOG_WARNING | ABOUT_DATA,
                 "carry %s: the team driver does not tell what it has, so no bucket goes back to its own port: %s", team->settings->carry,
                 strerror(errno));
         return;
@@ -87,17 +87,17 @@ void start_buckets(struct team_plane *team) {
 
 /* The conversation leaves its port at once: its frames cannot be held. */
 static bool force_free(struct carry *carry, uint16_t aggregator, uint16_t number) {
-    if (!is_done(carry->process, niw_force(&carry->protocol->own_system, aggregator, number), "niw_force")) return false;
+    if (!is_done(carry->core, niw_force(&carry->core->system, aggregator, number), "niw_force")) return false;
     carry->counts[FORCED]++;
     return true;
 }
 
 /* The port by which the frames of a conversation go from now on; 0 where the library tells none. */
 static uint16_t place_conversation(struct carry *carry, uint16_t number) {
-    struct niw_number answer = niw_offer_conversation(&carry->protocol->own_system, carry->active, number);
+    struct niw_number answer = niw_offer_conversation(&carry->core->system, carry->active, number);
     if (answer.status == NIW_HELD && force_free(carry, carry->active, number))
-        answer = niw_offer_conversation(&carry->protocol->own_system, carry->active, number);
-    if (answer.status == NIW_NONE_DISTRIBUTING || !is_done(carry->process, answer.status, "niw_offer_conversation")) return 0;
+        answer = niw_offer_conversation(&carry->core->system, carry->active, number);
+    if (answer.status == NIW_NONE_DISTRIBUTING || !is_done(carry->core, answer.status, "niw_offer_conversation")) return 0;
     carry->conversations[number].home = carry->active;
     carry->conversations[number].port = (uint16_t)answer.number;
     return (uint16_t)answer.number;
@@ -109,9 +109,9 @@ static void leave_last_aggregator(struct team_plane *team) {
     if (left == team->carry->active) return;
     for (uint16_t number = 0; left != 0 && number < CONVERSATIONS; number++) {
         struct niw_assignment state;
-        if (!ask_state(team->process, &team->protocol->own_system, left, number, &state)) return;
+        if (!ask_state(team->core, left, number, &state)) return;
         if (is_held(&state) && !force_free(team->carry, left, number)) return;
-        if (state.what == NIW_CONVERSATION_ON && !is_done(team->process, niw_rest(&team->protocol->own_system, left, number), "niw_rest")) return;
+        if (state.what == NIW_CONVERSATION_ON && !is_done(team->core, niw_rest(&team->core->system, left, number), "niw_rest")) return;
     }
     team->previous = team->carry->active;
 }
@@ -125,7 +125,7 @@ static void note_refusal(struct team_plane *team, uint16_t port, int fault) {
     if (is_short && team->shortages < MOST_SHORTAGES) return;
     team->shortages = 0;
     if (if_indextoname((unsigned)link->index, name)) /* of one that is gone the kernel tells, too */
-        (void)say(team->process, LOG_WARNING | ABOUT_DATA, "port %u %s: the team driver refuses it: %s", port, link->name, strerror(fault));
+        (void)say(team->core->lines, LOG_WARNING | ABOUT_DATA, "port %u %s: the team driver refuses it: %s", port, link->name, strerror(fault));
     lose_member(team->protocol, link);
 }
 
@@ -193,9 +193,9 @@ static void rest_still(struct team_plane *team) {
     for (uint16_t number = 0; number < CONVERSATIONS; number++) {
         struct niw_assignment state;
         if (!has_to_move(team, number) || team->counted_until < team->buckets[number].moved_at + team->settings->flight) continue;
-        if (!ask_state(team->process, &team->protocol->own_system, team->carry->active, number, &state)) return;
+        if (!ask_state(team->core, team->carry->active, number, &state)) return;
         if (state.what != NIW_CONVERSATION_ON) continue;
-        if (!is_done(team->process, niw_rest(&team->protocol->own_system, team->carry->active, number), "niw_rest")) return;
+        if (!is_done(team->core, niw_rest(&team->core->system, team->carry->active, number), "niw_rest")) return;
         team->carry->counts[RESTED]++;
     }
 }

@@ -120,7 +120,7 @@ void give_team_addresses(struct team_plane *team) {
         bool differs = team->taken[link - team->ports->links] && memcmp(link->mac, mac, sizeof mac) != 0;
         int fault = differs ? give_address(link->index, mac) : 0;
         if (fault == 0) continue;
-        (void)say(team->process, LOG_WARNING | ABOUT_DATA, "port %u %s: it does not take the address of %s: %s", link->settings.number,
+        (void)say(team->core->lines, LOG_WARNING | ABOUT_DATA, "port %u %s: it does not take the address of %s: %s", link->settings.number,
             link->name, team->settings->carry, strerror(-fault));
         lose_member(team->protocol, link);
     }
@@ -172,7 +172,7 @@ static bool see_team_port(struct plane *plane, const struct link *link, int mast
     if (!team->taken[link - team->ports->links] || master == team->device->index || !ask_interface(link->index, NULL, &now))
         return true;
     if (now.master == team->device->index) return true;
-    (void)say(team->process, LOG_WARNING | ABOUT_DATA, "port %u %s: it was taken out of %s", link->settings.number, link->name,
+    (void)say(team->core->lines, LOG_WARNING | ABOUT_DATA, "port %u %s: it was taken out of %s", link->settings.number, link->name,
         team->settings->carry);
     return false;
 }
@@ -241,13 +241,13 @@ static void end_team_plane(struct plane *plane) {
 
 /* Whether the kernel has the team driver, and its mode, which is another module: answers how the program ends. The mode is tried in a network
  * namespace that ends with the program, where that may be made. */
-static int check_team(struct process *process, struct plane *plane, const struct options *options) {
+static int check_team(struct lines *lines, struct plane *plane, const struct options *options) {
     struct team_plane *team = plane->team;
     bool is_apart = unshare(CLONE_NEWNET) == 0, has_driver = load_team_driver(&team->family);
-    if (!has_driver && errno == EPERM) return tell_lack(process, options, "plane", "not known without CAP_NET_ADMIN", DONE);
-    if (!has_driver) return tell_lack(process, options, "plane", "this kernel has no team driver", REFUSED);
+    if (!has_driver && errno == EPERM) return tell_lack(lines, options, "plane", "not known without CAP_NET_ADMIN", DONE);
+    if (!has_driver) return tell_lack(lines, options, "plane", "this kernel has no team driver", REFUSED);
     if (!is_apart || try_team_mode(team->family)) return DONE;
-    return tell_lack(process, options, "plane", "the team driver of this kernel has no mode loadbalance", REFUSED);
+    return tell_lack(lines, options, "plane", "the team driver of this kernel has no mode loadbalance", REFUSED);
 }
 
 const struct carrying TEAM_DEVICE = {

@@ -11,12 +11,12 @@ void stop(int status, const char *what, const char *which) {
     exit(status);
 }
 
-bool is_done(struct process *process, uint32_t status, const char *call) {
+bool is_done(struct core *core, uint32_t status, const char *call) {
     if (status != NIW_OK) stop(1, call, niw_status_text(status));
     return true;
 }
 
-bool is_told(struct process *process, struct niw_number answer, const char *call, uint64_t *number) {
+bool is_told(struct core *core, struct niw_number answer, const char *call, uint64_t *number) {
     *number = answer.number;
-    return is_done(process, answer.status, call);
+    return is_done(core, answer.status, call);
 }

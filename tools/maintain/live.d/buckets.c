@@ -75,7 +75,7 @@ uint32_t lagffi_rest(struct niw_system *handle, uint16_t agg, uint16_t conv) {
     return has ? NIW_OK : NIW_NOT_ASSIGNED;
 }
 
-bool ask_state(struct process *process, struct niw_system *system, uint16_t agg, uint16_t number, struct niw_assignment *state) {
+bool ask_state(struct core *core, uint16_t agg, uint16_t number, struct niw_assignment *state) {
     *state = (struct niw_assignment){.port = on[agg][number], .what = NIW_CONVERSATION_FREE};
     if (on[agg][number] != 0) state->what = is_on(agg, number) ? NIW_CONVERSATION_ON : NIW_CONVERSATION_WANTED;
     return true;
@@ -142,7 +142,7 @@ NOTHING(forget_heard, struct carry *carry)
 void set_carrier(struct device *device, bool on) {
     carrier = on;
 }
-bool say(struct process *process, int level, const char *format, ...) {
+bool say(struct lines *lines, int level, const char *format, ...) {
     unread_told += strstr(format, "does not tell") != NULL;
     return true;
 }

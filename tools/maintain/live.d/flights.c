@@ -32,7 +32,7 @@ ANSWERS(bool is_fast, is_fast_member, const struct member *member)
 ANSWERS(unsigned count_sending_queues, entries, int index)
 ANSWERS(bool await_input, fd >= 0 && tag == RESPONSES, int epoll_file, int fd, uint32_t tag)
 NOTHING(receive_data, struct tap_plane *tap, struct link *link)
-void send_frame(struct process *process, struct changes *changes, struct link *link, const uint8_t *frame) {
+void send_frame(struct core *core, struct changes *changes, struct link *link, const uint8_t *frame) {
     answered++;
 }
 
@@ -43,7 +43,7 @@ static uint32_t mark_of(struct msghdr *message) {
     return mark;
 }
 
-bool give_marker(struct process *process, const struct member *member, struct link *link, const uint8_t *marker, struct msghdr *message) {
+bool give_marker(struct core *core, const struct member *member, struct link *link, const uint8_t *marker, struct msghdr *message) {
     const uint8_t *at = marker + AT;
     ids[sent % 64] = (uint32_t)at[0] << 24 | (uint32_t)at[1] << 16 | (uint32_t)at[2] << 8 | at[3];
     marks[sent++ % 64] = mark_of(message);

@@ -27,20 +27,20 @@ ANSWERS(size_t packet_room, LARGE_OCTETS, void)
 /* Whether so many frames of a conversation wait. */
 static bool waits(uint16_t conversation, uint64_t wanted) {
     uint64_t waiting;
-    return count_held(&lagd->process, &lagd->tap.held, conversation, &waiting) && waiting == wanted && none_held(&lagd->process, &lagd->tap.held, conversation) == (wanted == 0);
+    return count_held(&lagd->core, &lagd->tap.held, conversation, &waiting) && waiting == wanted && none_held(&lagd->core, &lagd->tap.held, conversation) == (wanted == 0);
 }
 
 /* Whether so many wait in all. */
 static bool all_wait(uint64_t wanted) {
     uint64_t waiting;
-    return count_all_held(&lagd->process, &lagd->tap.held, &waiting) && waiting == wanted;
+    return count_all_held(&lagd->core, &lagd->tap.held, &waiting) && waiting == wanted;
 }
 
 /* Puts a frame with this number into its first octets. */
 static bool put(uint16_t conversation, uint32_t number, size_t length) {
     static uint8_t packet[LARGE_OCTETS];
     memcpy(packet, &number, sizeof number);
-    return put_held(&lagd->process, &lagd->tap.held, conversation, lagd->carry.time, packet, length);
+    return put_held(&lagd->core, &lagd->tap.held, conversation, lagd->carry.time, packet, length);
 }
 
 /* Takes the oldest frame out; answers its number, or UINT32_MAX where none waits. */
@@ -48,7 +48,7 @@ static uint32_t take(uint16_t conversation, size_t wanted) {
     size_t length;
     const uint8_t *packet;
     uint32_t number;
-    packet = remove_held(&lagd->process, &lagd->tap.held, conversation, &length);
+    packet = remove_held(&lagd->core, &lagd->tap.held, conversation, &length);
     if (!packet) return UINT32_MAX;
     memcpy(&number, packet, sizeof number);
     CHECK(length == wanted);
@@ -66,24 +66,24 @@ static uint32_t put_many(uint16_t conversation, uint32_t count, size_t length) {
 static uint32_t lose(uint16_t conversations) {
     uint32_t lost = 0;
     for (uint16_t number = 0; number < conversations; number++)
-        while (drop_held(&lagd->process, &lagd->tap.held, number)) lost++;
+        while (drop_held(&lagd->core, &lagd->tap.held, number)) lost++;
     return lost;
 }
 
 /* Frames leave in their order, each with its time. */
 static void check_order(void) {
     uint64_t came = 0;
-    CHECK(!oldest_held(&lagd->process, &lagd->tap.held, 7, &came) && came == 0 && waits(7, 0) && !drop_held(&lagd->process, &lagd->tap.held, 7));
+    CHECK(!oldest_held(&lagd->core, &lagd->tap.held, 7, &came) && came == 0 && waits(7, 0) && !drop_held(&lagd->core, &lagd->tap.held, 7));
     for (uint32_t number = 0; number < 4; number++) {
         lagd->carry.time = 1000 + number;
         CHECK(put(7, number, SMALL_OCTETS + number) && waits(7, number + 1) && waits(8, 0));
     }
     for (uint32_t number = 0; number < 4; number++) {
-        CHECK(oldest_held(&lagd->process, &lagd->tap.held, 7, &came) && came == 1000 + number && waits(7, 4 - number) && all_wait(4 - number));
+        CHECK(oldest_held(&lagd->core, &lagd->tap.held, 7, &came) && came == 1000 + number && waits(7, 4 - number) && all_wait(4 - number));
         if (number % 2 == 0)
             CHECK(take(7, SMALL_OCTETS + number) == number);
         else
-            CHECK(drop_held(&lagd->process, &lagd->tap.held, 7));
+            CHECK(drop_held(&lagd->core, &lagd->tap.held, 7));
     }
     CHECK(waits(7, 0));
     free_left(&lagd->tap.held);
@@ -96,7 +96,7 @@ static void check_refused(bool loses) {
     CHECK(put_many(0, EACH, SMALL_OCTETS) == EACH);
     for (uint32_t number = EACH; number < EACH + MANY; number++) {
         kept += put(0, number, SMALL_OCTETS);
-        if (loses) kept += drop_held(&lagd->process, &lagd->tap.held, 0) && put(0, number, SMALL_OCTETS);
+        if (loses) kept += drop_held(&lagd->core, &lagd->tap.held, 0) && put(0, number, SMALL_OCTETS);
     }
     CHECK(kept == (loses ? MANY : 0) && waits(0, EACH) && all_wait(EACH));
     for (uint16_t number = 1; number < ALL / EACH; number++) others += put_many(number, EACH + 1, SMALL_OCTETS);
@@ -117,13 +117,13 @@ static void check_large(void) {
 
 int main(void) {
     join_parts(lagd);
-    start_held(&lagd->process, &lagd->tap.held);
+    start_held(&lagd->core, &lagd->tap.held);
     check_order();
     for (unsigned times = 0; times < 2; times++) {
         check_refused(false);
         check_refused(true);
         check_large();
     }
-    end_held(&lagd->process, &lagd->tap.held);
+    end_held(&lagd->core, &lagd->tap.held);
     return tell_checks();
 }

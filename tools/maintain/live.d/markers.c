@@ -33,7 +33,7 @@ static bool answered; /* whether the response to the last marker came */
 static const uint8_t OWN[6] = {2, 0, 0, 0, 0, 0xaa}, PARTNER[6] = {2, 0, 0, 0, 0, 0xbb}, STRANGER[6] = {2, 0, 0, 0, 0, 0xcc};
 
 ANSWERS(uint64_t milliseconds, now, void)
-bool say(struct process *process, int level, const char *format, ...) {
+bool say(struct lines *lines, int level, const char *format, ...) {
     lines++;
     return true;
 }
@@ -78,7 +78,7 @@ static bool respond(const uint8_t *source, uint16_t port, uint32_t id) {
     struct arrival arrival = {.frame = frame, .length = sizeof frame};
     struct niw_pdu response;
     write_frame(frame, source, NIW_MARKER_RESPONSE, port, id);
-    CHECK(read_response(&lagd->process, &arrival, &response));
+    CHECK(read_response(&lagd->core, &arrival, &response));
     if (!is_partners_response(&lagd->settings, &lagd->ports.links[0], &arrival, &response)) {
         note_odd_marker(&lagd->ports.links[0], &arrival, FOREIGN_RESPONSES);
         return false;
@@ -143,8 +143,8 @@ static void check_forged(void) {
     CHECK(!respond(STRANGER, 1, last_id) && !respond(PARTNER, 2, last_id) && !respond(STRANGER, 0, 0) && lagd->carry.probe.peer == MUTE);
     for (uint32_t id = 0; id < 1000; id++) CHECK(respond(PARTNER, 1, id) && lagd->carry.probe.peer == MUTE);
     CHECK(lines == 1 && lagd->ports.links[0].counts[FOREIGN_RESPONSES] == 3);
-    tell_markers(&lagd->process, lagd->protocol.ticks, &lagd->ports.links[0]);
-    tell_markers(&lagd->process, lagd->protocol.ticks, &lagd->ports.links[0]);
+    tell_markers(&lagd->process.lines, lagd->protocol.ticks, &lagd->ports.links[0]);
+    tell_markers(&lagd->process.lines, lagd->protocol.ticks, &lagd->ports.links[0]);
     CHECK(lines == 2);
     CHECK(respond(PARTNER, 1, last_id) && lagd->carry.probe.peer == ANSWERS);
 }

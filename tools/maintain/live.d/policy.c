@@ -185,8 +185,8 @@ bool send_marker_again(struct tap_plane *tap, uint16_t port) {
     put_slow(end, port, end->marker[port]);
     return true;
 }
-void send_frame(struct process *process, struct changes *changes, struct link *link, const uint8_t *frame) {
-    struct end *end = end_of(process);
+void send_frame(struct core *core, struct changes *changes, struct link *link, const uint8_t *frame) {
+    struct end *end = end_of(core);
     uint8_t sent[NIW_FRAME];
     memcpy(sent, frame, sizeof sent);
     if (sent[SUBTYPE_AT] == SUBTYPE_MARKER && (weather.mute || now < end->mute_until)) return;
@@ -208,11 +208,11 @@ void put_host(struct tap_plane *tap, uint8_t *packet, size_t length) {
 }
 
 /* lines, and the carrier of the device, */
-ANSWERS(bool say, true, struct process *process, int level, const char *format, ...)
+ANSWERS(bool say, true, struct lines *lines, int level, const char *format, ...)
 const char *const SELECTIONS[] = {"", "", "", ""};
 static bool any_distributes(struct lagd *lagd) {
     for (uint16_t port = 1; port <= PORTS; port++)
-        if (niw_distributes(&lagd->protocol.own_system, port).is) return true;
+        if (niw_distributes(&lagd->core.system, port).is) return true;
     return false;
 }
 void set_carrier(struct device *device, bool on) {
@@ -226,10 +226,10 @@ void notify_bundle(const struct bundle *bundle, const char *what) {
 NOTHING(keep_port, struct state *state, uint16_t number, uint16_t port)
 /* the library, */
 ANSWERS(bool carries, link->view.port_status == NIW_PORT_STATUS_DISTRIBUTING, const struct protocol *protocol, const struct link *link)
-void read_views(struct process *process, struct niw_system *system, struct ports *ports) {
+void read_views(struct core *core, struct ports *ports) {
     struct niw_view views[NIW_MOST_PORTS];
     uint64_t changed;
-    if (!is_told(process, niw_views(system, views, NIW_MOST_PORTS), "niw_views", &changed)) return;
+    if (!is_told(core, niw_views(&core->system, views, NIW_MOST_PORTS), "niw_views", &changed)) return;
     for (uint16_t i = 0; i < PORTS; i++)
         if (changed >> i & 1) ports->links[i].view = views[i];
 }
@@ -237,8 +237,8 @@ void send_due(struct protocol *protocol) {
     uint8_t frame[NIW_FRAME];
     for (uint16_t port = 1; port <= PORTS; port++) {
         for (;;) {
-            struct niw_sent due = niw_transmit(&protocol->own_system, port, frame, sizeof frame);
-            if (!is_done(protocol->process, due.status, "niw_transmit") || !due.is) break;
+            struct niw_sent due = niw_transmit(&protocol->core->system, port, frame, sizeof frame);
+            if (!is_done(protocol->core, due.status, "niw_transmit") || !due.is) break;
             if (due.what == NIW_SENT_MARKER)
                 send_new_marker(protocol->plane, &protocol->ports->links[port - 1], frame);
             else
@@ -261,7 +261,7 @@ struct niw_number conversation_of(struct protocol *protocol, const uint8_t *fram
 
 /* and what is of members with several queues, of which there are none here; */
 static bool answer(struct tap_plane *tap, struct link *link, const uint8_t *response) {
-    send_frame(tap->process, &tap->protocol->changes, link, response);
+    send_frame(tap->core, &tap->protocol->changes, link, response);
     return true;
 }
 static void accept_any(struct tap_plane *tap, struct link *link, const struct arrival *arrival, uint32_t id) {
@@ -270,14 +270,14 @@ static void accept_any(struct tap_plane *tap, struct link *link, const struct ar
 
 /* and what is not here: the settings of the device. */
 NOTHING(count_full_sockets, struct member *members, uint16_t count)
-NOTHING(pass_announcing_tick, struct process *process, struct announce *own, const struct device *device)
+NOTHING(pass_announcing_tick, struct lines *lines, struct announce *own, const struct device *device)
 NOTHING(pass_tap_tick, struct device *device)
 NOTHING(announce_soon, struct announce *own)
 ANSWERS(uint32_t sum_speeds, 1000, const struct carry *carry, const struct member *members)
 NOTHING(set_speed, struct device *device, uint32_t megabits)
 /* The device is up here, and no port comes or goes. */
 ANSWERS(uint16_t count_links, PORTS, const struct ports *ports)
-NOTHING(tell_watchers_of, struct process *process, const struct control *control, const struct link *link)
+NOTHING(tell_watchers_of, struct core *core, const struct control *control, const struct link *link)
 /* The plane: frames come here alone, and members have one queue. */
 static const struct carrying FRAMES = {.settle = settle_frames, .tick = pass_tick_of_frames, .keeps_aggregator = heard_peer_lately,
     .frames_heard = frames_handed_up, .tell_host = tell_speed_and_carrier, .go_on = settle_carry,
@@ -291,10 +291,10 @@ static void set_link_of(struct end *end, uint16_t port, bool up) {
     if (link->up == up) return;
     link->up = up;
     if (!up) forget_partner(&end->lagd.settings, link);
-    if (!is_done(&end->lagd.process, niw_set_link(&end->lagd.protocol.own_system, port, up), "niw_set_link")) return;
+    if (!is_done(&end->lagd.core, niw_set_link(&end->lagd.core.system, port, up), "niw_set_link")) return;
     end->lagd.plane.changed = true;
     send_due(&end->lagd.protocol);
-    read_views(&end->lagd.process, &end->lagd.protocol.own_system, &end->lagd.ports);
+    read_views(&end->lagd.core, &end->lagd.ports);
     settle_carry(&end->lagd.plane);
 }
 
@@ -319,8 +319,8 @@ static void make_end(struct end *end, uint8_t which) {
         memcpy(lagd->ports.links[i].mac, ports[i].mac, sizeof ports[i].mac);
         end->wires[i + 1].delay = 20;
     }
-    CHECK(niw_new(&lagd->protocol.own_system, &lagd->settings.config, keys, KEYS, ports, PORTS).status == NIW_OK);
-    start_held(&lagd->process, &lagd->tap.held);
+    CHECK(niw_new(&lagd->core.system, &lagd->settings.config, keys, KEYS, ports, PORTS).status == NIW_OK);
+    start_held(&lagd->core, &lagd->tap.held);
     end->next_tick = now + below(TICK);
 }
 
@@ -328,7 +328,7 @@ static void make_end(struct end *end, uint8_t which) {
 static void check_counts(struct end *end) {
     const uint64_t *counts = end->lagd.carry.counts;
     uint64_t waiting = 0;
-    CHECK(count_all_held(&end->lagd.process, &end->lagd.tap.held, &waiting));
+    CHECK(count_all_held(&end->lagd.core, &end->lagd.tap.held, &waiting));
     CHECK(counts[FROM_HOST] == counts[UNFIT] + counts[NONE_CARRIES] + counts[QUEUE_FULL] + counts[HELD_TOO_LONG] + waiting + end->given);
     CHECK(end->out_count == 0 && counts[UNFIT] == 0);
     if (waiting > most_waited) most_waited = waiting;
@@ -338,7 +338,7 @@ static void check_counts(struct end *end) {
 static void check_waiting(struct end *end) {
     uint64_t came;
     for (uint16_t number = 0; number < CONVERSATIONS; number++)
-        if (oldest_held(&end->lagd.process, &end->lagd.tap.held, number, &came)) CHECK(now - came < FLIGHT + 1000);
+        if (oldest_held(&end->lagd.core, &end->lagd.tap.held, number, &came)) CHECK(now - came < FLIGHT + 1000);
 }
 
 /* Frames of the host come. */
@@ -374,8 +374,8 @@ static void take(struct end *end, uint16_t port, uint8_t *frame, size_t length) 
         lagd->plane.changed = true;
         send_due(&lagd->protocol);
     } else {
-        received = niw_receive(&lagd->protocol.own_system, port, frame, length, response, sizeof response);
-        if (is_done(&lagd->process, received.status, "niw_receive") && received.what == NIW_RECEIVED_HANDED_UP)
+        received = niw_receive(&lagd->core.system, port, frame, length, response, sizeof response);
+        if (is_done(&lagd->core, received.status, "niw_receive") && received.what == NIW_RECEIVED_HANDED_UP)
             hand_up_frame(&lagd->tap, received.number, frame, length);
     }
     settle_carry(&lagd->plane);
@@ -422,8 +422,8 @@ static void change_cable(uint16_t port) {
 static void hold(struct end *end, uint16_t port, bool held) {
     struct link *link = &end->lagd.ports.links[port - 1];
     link->emptying = false;
-    CHECK(niw_hold(&end->lagd.protocol.own_system, port, held) == NIW_OK);
-    read_views(&end->lagd.process, &end->lagd.protocol.own_system, &end->lagd.ports);
+    CHECK(niw_hold(&end->lagd.core.system, port, held) == NIW_OK);
+    read_views(&end->lagd.core, &end->lagd.ports);
     end->lagd.plane.changed = true;
     send_due(&end->lagd.protocol);
     settle_carry(&end->lagd.plane);
@@ -448,17 +448,17 @@ static void end_emptying(struct end *end) {
 static void pass_time(struct end *end, unsigned ticks) {
     struct lagd *lagd = &end->lagd;
     for (; ticks > 0; ticks--) {
-        CHECK(niw_tick(&lagd->protocol.own_system) == NIW_OK);
+        CHECK(niw_tick(&lagd->core.system) == NIW_OK);
         lagd->protocol.ticks++;
-        read_views(&lagd->process, &lagd->protocol.own_system, &lagd->ports);
-        if (!lagd->process.broken) CALL(lagd->plane.carrying->tick, &lagd->plane);
+        read_views(&lagd->core, &lagd->ports);
+        if (!lagd->core.broken) CALL(lagd->plane.carrying->tick, &lagd->plane);
         end_emptying(end);
-        if (now / 1000 != (now - TICK) / 1000 && lagd->protocol.bundle.lines < MOST_LINES) lagd->protocol.bundle.lines++;
+        if (now / 1000 != (now - TICK) / 1000 && lagd->protocol.bundle.lines_left < MOST_LINES) lagd->protocol.bundle.lines_left++;
         events++;
     }
     check_waiting(end);
     send_due(&lagd->protocol);
-    read_views(&lagd->process, &lagd->protocol.own_system, &lagd->ports);
+    read_views(&lagd->core, &lagd->ports);
     look_at_bundle(&lagd->protocol);
     settle_carry(&lagd->plane);
     CHECK(!end->carrier || any_distributes(lagd));

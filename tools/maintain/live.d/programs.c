@@ -320,7 +320,7 @@ static bool make_own_system(void) {
     struct settings usual = usual_settings();
     struct niw_port port = {.number = 1, .key = 1, .aggregatable = true, .active = true};
     usual.config.mac[0] = 2;
-    return niw_new(&lagd->protocol.own_system, &usual.config, &port.key, 1, &port, 1).status == NIW_OK;
+    return niw_new(&lagd->core.system, &usual.config, &port.key, 1, &port, 1).status == NIW_OK;
 }
 
 static bool load_all(void) {
@@ -347,6 +347,6 @@ int main(int argc, char **argv) {
         status = argc == 3 ? print_all() : check_all(argv[1]);
     }
     tagging__destroy(tagging);
-    (void)niw_free(&lagd->protocol.own_system);
+    (void)niw_free(&lagd->core.system);
     return status;
 }

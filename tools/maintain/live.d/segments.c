@@ -29,7 +29,7 @@ static unsigned took;
 static bool refuses_joined, refuses_all;
 static uint64_t state = 7;
 
-bool give_host(const struct process *process, int tap, const struct iovec *parts, unsigned count, size_t length) {
+bool give_host(const struct core *core, int tap, const struct iovec *parts, unsigned count, size_t length) {
     uint8_t *packet = malloc(length);
     size_t at = 0;
     for (unsigned i = 0; i < count; at += parts[i++].iov_len) {

@@ -67,7 +67,7 @@ static void make_daemon(void) {
     lagd->settings.config.mac[0] = 2;
     if (add_port(&lagd->settings, "lo", 2) || add_port(&lagd->settings, "gone", 4)) abort();
     lagd->process.folder = open_folder(folder);
-    lagd->process.output = open("/dev/null", O_WRONLY);
+    lagd->process.lines.output = open("/dev/null", O_WRONLY);
     broken = open("/proc/self/mem", O_RDONLY);
     recall_state(&lagd->state);
     make_system(&lagd->protocol);
