@@ -96,18 +96,18 @@ void go_on_in(struct carry *carry, uint16_t aggregator) {
 }
 
 /* Another aggregator is active: what is on a port of the previous one leaves it, behind a marker. Its frames wait until it is free there.
- * One for which no marker is left goes on after a rest. */
-void leave_previous(struct carry *carry) {
+ * One for which no marker is left goes on after a rest. Answers whether markers are due. */
+bool leave_previous(struct carry *carry) {
     uint16_t left = carry->previous;
     uint16_t ports[CONVERSATIONS];
-    if (carry->active == 0 || carry->active == left) return;
+    if (carry->active == 0 || carry->active == left) return false;
     carry->previous = carry->active;
-    if (!ask_ports(carry->core, left, ports)) return;
+    if (!ask_ports(carry->core, left, ports)) return false;
     for (uint16_t number = 0; number < CONVERSATIONS; number++) {
         uint32_t status = ports[number] == 0 ? NIW_OK : niw_leave_conversation(&carry->core->system, left, number);
-        if (status != NIW_MARKERS_SPENT && !is_done(carry->core, status, "niw_leave_conversation")) return;
+        if (status != NIW_MARKERS_SPENT && !is_done(carry->core, status, "niw_leave_conversation")) return false;
     }
-    send_due(carry->protocol);
+    return true;
 }
 
 void note_heard(struct carry *carry) {

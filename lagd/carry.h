@@ -101,7 +101,7 @@ bool is_held(const struct niw_assignment *state);
 bool is_busy(const struct carry *carry, const struct conversation *conversation);
 bool heard_peer_lately(const struct plane *plane);
 void forget_heard(struct carry *carry);
-void leave_previous(struct carry *carry);
+bool leave_previous(struct carry *carry);
 void choose_ports(struct plane *plane);
 void begin_carry_tick(struct carry *carry);
 void note_heard(struct carry *carry);

@@ -91,8 +91,9 @@ static void follow_link(struct protocol *protocol, struct link *link, const stru
         lost = losses > 0;
         link->counts[LOSSES] += losses;
     }
-    bool other = carrier && (lost || link->away) && has_other_speed(protocol->settings, link);
-    bool spared = (interface->flags & IFF_UP) && note_whether_spared(protocol->process, link, carrier, lost) && !other;
+    bool was_away = link->away, other = carrier && (lost || link->away) && has_other_speed(protocol->settings, link);
+    bool spared = (interface->flags & IFF_UP) && note_whether_stays_up(protocol->process, link, carrier, lost) && !other;
+    if (spared && !carrier && !was_away && !lost) link->counts[LOSSES]++; /* of a kernel that does not count them */
     if (spared && !carrier) return;
     if ((lost || other) && !spared && link->up) {
         if (!link->away) link->counts[LOSSES]--; /* which set_link counts */

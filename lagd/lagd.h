@@ -458,7 +458,7 @@ bool choose_whether_restored(struct protocol *protocol, struct link *link);
 void set_waiting(struct link *link, bool waits);
 bool choose_whether_waited(struct protocol *protocol, const struct link *link);
 void note_carrier(const struct settings *settings, struct link *link);
-bool note_whether_spared(const struct process *process, struct link *link, bool carrier, bool lost);
+bool note_whether_stays_up(const struct process *process, struct link *link, bool carrier, bool lost);
 
 /* revert.c */
 void pass_revert_second(struct protocol *protocol);

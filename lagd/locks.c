@@ -21,9 +21,9 @@ static unsigned long inode_of(int fd) {
 }
 
 /* Finds the lock of an interface that is not this socket; answers 0, or -errno where the kernel does not tell. */
-static int find_lock(int index, int but, struct lock *found) {
+static int find_lock(int index, int but_socket, struct lock *found) {
     CLOSED_STREAM FILE *file = fopen("/proc/self/net/packet", "re");
-    unsigned long own = inode_of(but);
+    unsigned long own = inode_of(but_socket);
     char line[256];
     *found = (struct lock){0};
     if (!file) return last_fault();

@@ -228,7 +228,7 @@ static void run(struct lagd *lagd, int signals, int clock, const char *file) {
 }
 
 /* Where a standard file is closed, what is opened next would take its number. */
-static void keep_standard_files(void) {
+static void open_closed_standard_files(void) {
     int opened;
     do opened = open("/dev/null", O_RDWR);
     while (opened >= 0 && opened <= STDERR_FILENO);
@@ -278,7 +278,7 @@ int main(int argc, char **argv) {
     static struct lagd *lagd; /* until the program ends */
     struct options options;
     lagd = make_lagd();
-    keep_standard_files();
+    open_closed_standard_files();
     read_options(&lagd->process, argc, argv, &options);
     if (options.action == RUN_BUNDLE) return run_daemon(lagd, &options);
     if (options.action == CHECK) return check_machine(&lagd->process.lines, &lagd->plane, &options);

@@ -183,7 +183,7 @@ void stay_port(struct protocol *protocol, struct link *link) {
 }
 
 /* Whether nothing of ours is on a link that is held, and its partner sends nothing more there, as far as it tells. */
-static bool is_quiet(struct core *core, const struct link *link) {
+static bool has_nothing_under_way(struct core *core, const struct link *link) {
     uint64_t load = 0, held = 0;
     bool stopped = link->view.defaulted || !(link->view.partner_state & (NIW_STATE_COLLECTING | NIW_STATE_DISTRIBUTING));
     return stopped && is_told(core, niw_load(&core->system, link->settings.number), "niw_load", &load) && load == 0
@@ -195,7 +195,7 @@ static bool note_whether_left(struct core *core, struct link *link) {
     uint64_t now = milliseconds(), most = core->settings->flight > MOST_WAIT ? core->settings->flight : MOST_WAIT;
     if (!link->up) return true;
     if (link->emptying) return false;
-    if (link->left_at == 0 && (is_quiet(core, link) || now - link->leaves_since >= most)) link->left_at = now;
+    if (link->left_at == 0 && (has_nothing_under_way(core, link) || now - link->leaves_since >= most)) link->left_at = now;
     return link->left_at != 0 && now - link->left_at >= LINGERS;
 }
 

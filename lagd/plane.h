@@ -49,7 +49,7 @@ struct carrying {
     bool (*empty)(struct plane *plane, const struct link *link); /* moves them to other ports: whether none is left, or can leave so */
     void (*drain)(struct plane *plane, struct link *link); /* hands up what waits at a port that is to be held */
     void (*lose)(struct plane *plane, const struct link *link); /* its link goes down */
-    void (*forget)(struct plane *plane, const struct link *link); /* another interface is to be this port: its counts begin anew */
+    void (*forget)(struct plane *plane, const struct link *link); /* another interface is to be this port: what is known of it begins anew */
     void (*send_marker)(struct plane *plane, struct link *link, const uint8_t *marker); /* one is due */
     void (*note_response)(struct plane *plane, const struct link *link); /* its partner answered a marker */
     bool (*see_port)(struct plane *plane, const struct link *link, int master); /* whether one of this master is a port still; a line, where not */

@@ -50,9 +50,8 @@ bool choose_whether_waited(struct protocol *protocol, const struct link *link) {
 /* The kernel told of a link whether its carrier is there, and whether it was lost since: answers whether the link stays up all the same. What is
  * there at the start counts as steady. For the library its port is operable for so long (port_enabled of IEEE 802.1AX-2014, 6.4.12, leaves to the
  * hardware when it is not). */
-bool note_whether_spared(const struct process *process, struct link *link, bool carrier, bool lost) {
+bool note_whether_stays_up(const struct process *process, struct link *link, bool carrier, bool lost) {
     bool spared = link->up && (lost || !carrier) && !is_away_too_long(process->settings->delay_down, link);
-    if (spared && !carrier && !link->away && !lost) link->counts[LOSSES]++; /* of a kernel that does not count them */
     if (carrier && (lost || link->away || (!link->up && !link->waits && process->has_started))) link->returned_at = milliseconds();
     if (carrier) note_carrier(process->settings, link);
     if (!spared && !carrier) return false;

@@ -214,9 +214,9 @@ static _Noreturn void run_copier(struct state *own, int told, pid_t daemon) {
     _exit(DONE);
 }
 
-static void leave_copier(struct state *own) {
-    if (own->copied >= 0) close(own->copied);
-    own->copied = -1;
+static void forget_copier(int *copied) {
+    if (*copied >= 0) close(*copied);
+    *copied = -1;
 }
 
 /* Has the copy written or removed; answers 0, or -errno. */
@@ -229,7 +229,7 @@ static int start_copier(struct state *own) {
     if (own->copier == 0) run_copier(own, ends[1], daemon);
     own->copied = ends[0];
     close(ends[1]);
-    if (fault < 0) leave_copier(own);
+    if (fault < 0) forget_copier(&own->copied);
     return fault;
 }
 
@@ -242,7 +242,7 @@ static struct copied fault_of_copy(const struct state *own, int fault) {
 static void see_copy(struct state *own) {
     struct copied copied = fault_of_copy(own, -ECANCELED);
     if (own->copied < 0 || (read(own->copied, &copied, sizeof copied) < 0 && errno == EAGAIN)) return;
-    leave_copier(own);
+    forget_copier(&own->copied);
     own->has_copy = copied.removed < 0 || copied.written == -ECANCELED || (copied.written == 0 && own->copied_ports != 0);
     note_copy(own, copied);
 }
@@ -265,7 +265,7 @@ static bool await_copier(struct state *own) {
     struct pollfd told = {own->copied, POLLIN, 0};
     bool done = own->copied < 0 || poll(&told, 1, MOST_COPYING) > 0;
     see_copy(own);
-    leave_copier(own);
+    forget_copier(&own->copied);
     return done;
 }
 

@@ -88,7 +88,7 @@ void return_stored(struct store *own, const char *kind, int number, int fd) {
 }
 
 /* Whether a file keeps a program that one in use keeps, too: the manager may hand over the same file twice. */
-static bool is_twin(const struct store *own, int fd) {
+static bool keeps_program_in_use(const struct store *own, int fd) {
     uint32_t number = program_keeper(fd);
     for (size_t i = 0; i < own->count; i++)
         if (number != 0 && own->stored[i].taken >= 0 && program_keeper(own->stored[i].taken) == number) return true;
@@ -102,7 +102,7 @@ void drop_unclaimed(struct store *own) {
         tell_store("FDSTOREREMOVE", it->name, -1);
         EACH_STORED(other, own)
             if (other->taken >= 0 && strcmp(other->name, it->name) == 0) tell_store("FDSTORE", other->name, other->taken);
-        if (!is_twin(own, it->fd)) detach_program(it->fd);
+        if (!keeps_program_in_use(own, it->fd)) detach_program(it->fd);
         close(it->fd);
         it->fd = -1;
     }

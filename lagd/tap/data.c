@@ -124,7 +124,7 @@ void settle_frames(struct plane *plane) {
     struct tap_plane *tap = plane->tap;
     choose_ports(plane);
     CALL(plane->passing->withdraw, tap);
-    leave_previous(tap->carry);
+    if (leave_previous(tap->carry)) send_due(tap->protocol);
     CALL(plane->passing->set_collecting, tap);
     look_at_partner(&tap->carry->probe, tap->carry);
     if (tap->held.any_waits) offer_held_again(tap);

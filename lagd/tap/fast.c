@@ -331,8 +331,7 @@ static void note_read(struct tap_plane *tap, unsigned packets, bool drained) {
 }
 
 /* Suspects a row with frames that do not come: none came since the last tick. */
-static bool suspect_row(struct fast_row *row, struct conversation *conversation) {
-    subtract_segments(row, conversation, take_count(&row->overflowed));
+static bool suspect_row(const struct fast_row *row, struct conversation *conversation) {
     uint64_t word = word_of(row), opaque = __atomic_load_n(&row->opaque, __ATOMIC_SEQ_CST);
     if (conversation->fast.port > 0 || conversation->used || conversation->fast.suspected || (word == 0 && opaque == 0)) return false;
     conversation->fast.suspected = true;
@@ -356,7 +355,11 @@ static void pass_fast_tick(struct tap_plane *tap) {
     open_host(tap, has_carrier(tap->device));
     count_fast_frames(tap);
     if (tap->carry->probe.peer == MUTE) withdraw_resting(tap);
-    EACH_CONVERSATION(conversation, tap->carry) any = suspect_row(row_of(tap, conversation), conversation) || any;
+    EACH_CONVERSATION(conversation, tap->carry) {
+        struct fast_row *row = row_of(tap, conversation);
+        subtract_segments(row, conversation, take_count(&row->overflowed));
+        any = suspect_row(row, conversation) || any;
+    }
     if (any) wait_or_end(tap);
 }
 

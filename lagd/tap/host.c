@@ -60,7 +60,7 @@ static void wait_uncut(struct carry *carry, struct host *own, const uint8_t *pac
 
 /* Takes a packet whose segments and checksum the host left to a card, but one of more segments than are cut at once; answers how many frames it
  * has. A packet that cannot be cut has no octets. */
-static unsigned accept_whole(struct tap_plane *tap, uint8_t *packet, size_t length) {
+static unsigned cut_or_accept_packet(struct tap_plane *tap, uint8_t *packet, size_t length) {
     struct cut cut;
     if (has_segments(packet)) {
         tap->carry->counts[SEGMENTED]++;
@@ -79,7 +79,7 @@ static void cut_waiting(struct tap_plane *tap, unsigned most) {
         struct uncut *uncut = &own->waiting[own->first];
         if (uncut->cut.count > 0 && uncut->next == 0) tap->carry->counts[SEGMENTED]++;
         unsigned now = uncut->cut.count > 0 ? cut_segments(tap, &uncut->cut, uncut->next, most - taken)
-                                   : accept_whole(tap, room_at(own->rooms, own->first), uncut->length);
+                                   : cut_or_accept_packet(tap, room_at(own->rooms, own->first), uncut->length);
         uncut->next += now;
         taken += now;
         if (uncut->next < uncut->cut.count) continue;
@@ -94,12 +94,12 @@ static void cut_waiting(struct tap_plane *tap, unsigned most) {
 static unsigned accept_in_turn(struct tap_plane *tap, uint8_t *packet, size_t length) {
     struct cut cut;
     size_t head = head_octets();
-    if (length < head + ETH_HLEN) return accept_whole(tap, packet, length);
+    if (length < head + ETH_HLEN) return cut_or_accept_packet(tap, packet, length);
     bool is_long = has_segments(packet) && read_cut(packet, length, &cut) && cut.count > MOST_AT_ONCE;
-    if (!is_long && !is_cutting(tap->core, &tap->host)) return accept_whole(tap, packet, length);
+    if (!is_long && !is_cutting(tap->core, &tap->host)) return cut_or_accept_packet(tap, packet, length);
     struct niw_number told = conversation_of(tap->protocol, packet + head, length - head);
     uint16_t number = (uint16_t)(told.number % CONVERSATIONS);
-    if (told.status != NIW_OK || (!is_long && tap->host.of_one[number] == 0)) return accept_whole(tap, packet, length);
+    if (told.status != NIW_OK || (!is_long && tap->host.of_one[number] == 0)) return cut_or_accept_packet(tap, packet, length);
     wait_uncut(tap->carry, &tap->host, packet, length, number);
     return 1;
 }

@@ -241,7 +241,7 @@ static void close_member(struct plane *plane, const struct link *link) {
     release_member(tap->process, &tap->fast, link, member);
 }
 
-static void forget_member(struct plane *plane, const struct link *link) {
+static void reset_member(struct plane *plane, const struct link *link) {
     struct member *member = member_of(plane->tap, link);
     memset(member->counts, 0, sizeof member->counts);
     member->mtu = member->megabits = 0;
@@ -464,7 +464,7 @@ const struct carrying TAP_DEVICE = {
     .open = open_tap_plane, .end = end_tap_plane, .lose_device = lose_device, .keep_device = keep_tap, .leave = leave_tap,
     .give_carrier = give_tap_carrier, .settle_mtu = settle_tap_mtu, .add = open_member, .remove = close_member, .renew = renew_for_discipline,
     .move = move_member, .follow_mtu = follow_member_mtu, .follow_speed = follow_speed, .can_empty = can_empty, .empty = empty_port,
-    .drain = drain_member, .lose = lose_data, .forget = forget_member, .send_marker = send_new_marker, .note_response = note_response,
+    .drain = drain_member, .lose = lose_data, .forget = reset_member, .send_marker = send_new_marker, .note_response = note_response,
     .settle = settle_frames, .tick = pass_tick_of_frames, .keeps_aggregator = heard_peer_lately, .frames_heard = frames_handed_up,
     .tell_host = tell_speed_and_carrier, .resume = resume_conversations, .go_on = settle_carry, .member_of = fast_member_of,
     .end_resuming = release_former_members, .frames_waiting = count_frames_waiting, .check = check_tap, .show = show_carry,

@@ -189,14 +189,14 @@ static bool has_to_move(const struct team_plane *team, uint16_t number) {
 }
 
 /* Frees the conversations of buckets that wait and were still for a flight. */
-static void rest_still(struct team_plane *team) {
+static void rest_silent_conversations(struct core *core, const struct team_plane *team, uint64_t *rested) {
     for (uint16_t number = 0; number < CONVERSATIONS; number++) {
         struct niw_assignment state;
         if (!has_to_move(team, number) || team->counted_until < team->buckets[number].moved_at + team->settings->flight) continue;
-        if (!ask_state(team->core, team->carry->active, number, &state)) return;
+        if (!ask_state(core, team->carry->active, number, &state)) return;
         if (state.what != NIW_CONVERSATION_ON) continue;
-        if (!is_done(team->core, niw_rest(&team->core->system, team->carry->active, number), "niw_rest")) return;
-        team->carry->counts[RESTED]++;
+        if (!is_done(core, niw_rest(&core->system, team->carry->active, number), "niw_rest")) return;
+        (*rested)++;
     }
 }
 
@@ -211,7 +211,7 @@ void pass_tick_of_team(struct plane *plane) {
     begin_carry_tick(team->carry);
     unsigned waiting = count_waiting_buckets(team);
     if (team->carry->time - team->looked_at >= (waiting > 0 ? LOOKED_WAITING : LOOKED_EVERY)) look_at_driver(team);
-    if (waiting > 0) rest_still(team);
+    if (waiting > 0) rest_silent_conversations(team->core, team, &team->carry->counts[RESTED]);
     if (team->protocol->ticks % SECOND == 0) give_team_addresses(team);
     note_heard(team->carry);
     end_carry_tick(team->carry);

@@ -127,7 +127,7 @@ void give_team_addresses(struct team_plane *team) {
 }
 
 /* Takes an interface out of the device, by which it goes down: also where the device is gone, or somebody else took it out. */
-void leave_team_port(const struct team_plane *team, int index) {
+void take_out_of_team(const struct team_plane *team, int index) {
     struct interface port;
     if (!team->opened || !ask_interface(index, NULL, &port) || (port.master != 0 && port.master != team->device->index)) return;
     bool up = port.master == 0 || (port.flags & IFF_UP);
@@ -151,7 +151,7 @@ static int open_team_port(struct plane *plane, struct link *link) {
     if (fault == 0 && memcmp(port.mac, mac, sizeof mac) != 0) fault = give_address(link->index, mac);
     team->taken[link - team->ports->links] = fault == 0;
     forget_port(team, link->settings.number);
-    if (fault != 0) leave_team_port(team, link->index);
+    if (fault != 0) take_out_of_team(team, link->index);
     if (fault != 0 && up) (void)set_interface_up(link->index, true);
     return fault;
 }
@@ -161,7 +161,7 @@ static void close_team_port(struct plane *plane, const struct link *link) {
     if (!team->taken[link - team->ports->links]) return;
     team->taken[link - team->ports->links] = false;
     forget_port(team, link->settings.number);
-    leave_team_port(team, link->index);
+    take_out_of_team(team, link->index);
 }
 
 /* Sees whether an interface is still a port of the device, as the kernel tells another master, or none: that may be older than what the daemon

@@ -68,7 +68,7 @@ size_t make_team_hash(const struct settings *settings, struct sock_filter steps[
 /* team.c */
 extern const struct carrying TEAM_DEVICE;
 void give_team_addresses(struct team_plane *team);
-void leave_team_port(const struct team_plane *team, int index);
+void take_out_of_team(const struct team_plane *team, int index);
 
 /* buckets.c */
 void start_buckets(struct team_plane *team);
