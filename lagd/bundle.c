@@ -56,7 +56,7 @@ static void enter_state(struct core *core, struct bundle *own, const struct bund
     (void)say(core->lines, (now->state == BUNDLE_UP ? LOG_NOTICE : LOG_WARNING) | ABOUT_BUNDLE,
         "bundle %s: %s, %u of %u links carry, aggregator %u", settings->name, BUNDLE_STATE_TEXTS[now->state], now->carrying, now->links,
         now->aggregator);
-    tell_watchers_of(core, control, NULL);
+    write_report_and_tell_watchers(core, control, NULL);
     notify_bundle(own, "");
     if (now->state != before && settings->hook[0]) run_hook(core->lines, own, before);
 }

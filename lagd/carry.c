@@ -49,7 +49,7 @@ void suspect_aggregator(struct carry *carry, uint32_t aggregator) {
     uint64_t patience = patience_with(carry->protocol, carry->active, (uint16_t)aggregator);
     carry->elsewhere += NIW_TICK_MILLISECONDS;
     if (patience != 0 && carry->elsewhere > patience) follow_peer(carry->protocol, (uint16_t)aggregator);
-    else if (carry->heard_at == 0 || !is_as_good_as_any(carry->protocol, (uint16_t)aggregator)) return;
+    else if (carry->heard_at == 0 || !is_as_good_as_any(carry->core, carry->protocol, (uint16_t)aggregator)) return;
     carry->heard_at = 0;
     carry->plane->changed = true;
 }

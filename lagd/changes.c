@@ -69,7 +69,7 @@ static bool take_up_or_end(struct protocol *protocol, struct link *link, const s
 /* The interface of a port does not do what it has to: it is taken up anew. */
 void lose_member(struct protocol *protocol, struct link *link) {
     protocol->changes.ask_again = true;
-    lose_link(protocol, link);
+    lose_and_release_link(protocol, link);
 }
 
 /* Follows an interface of a port. Its carrier may have gone and come back, of which the kernel tells at once: it counts how often
@@ -96,21 +96,21 @@ static void follow_link(struct protocol *protocol, struct link *link, const stru
     if (spared && !carrier && !was_away && !lost) link->counts[LOSSES]++; /* of a kernel that does not count them */
     if (spared && !carrier) return;
     if ((lost || other) && !spared && link->up) {
-        if (!link->away) link->counts[LOSSES]--; /* which set_link counts */
-        set_link(protocol, link, false);
+        if (!link->away) link->counts[LOSSES]--; /* which set_link_send_and_tell counts */
+        set_link_send_and_tell(protocol, link, false);
     }
     if ((lost && !spared) || !carrier) set_waiting(link, false);
-    bool up = carrier && !protocol->halt.silent && choose_whether_restored(protocol, link);
+    bool up = carrier && !protocol->halt.silent && choose_aggregator_and_whether_restored(protocol, link);
     if (up && !link->up) fit_queue(protocol->plane, link);
     if (up) apply_speed(protocol, link);
     if (up) CALL(protocol->plane->carrying->follow_speed, protocol->plane, link);
-    set_link(protocol, link, up);
+    set_link_send_and_tell(protocol, link, up);
 }
 
 /* The interface of a port is gone, or has another name now. Where the device alone said that it is a port, it is none any more. */
 static void lose_interface(struct protocol *protocol, struct link *link) {
     link->outside = link->outside || link->followed;
-    if (link->socket >= 0) lose_link(protocol, link);
+    if (link->socket >= 0) lose_and_release_link(protocol, link);
 }
 
 /* An interface is there. A port goes by its name, and the TAP device by its number. */
@@ -127,8 +127,10 @@ static void follow_present(struct protocol *protocol, const struct interface *in
         named = named || (same && take_new_name(protocol, link, interface));
         if (link->socket >= 0 && (same != named || (same && !is_bound(link->socket, link->index)))) lose_interface(protocol, link);
         if (same && link->socket >= 0 && !ASK(protocol->plane->carrying->see_port, true, protocol->plane, link, interface->master)) {
+            (void)say(protocol->core->lines, LOG_WARNING | ABOUT_DATA, "port %u %s: it was taken out of %s", link->settings.number, link->name,
+                protocol->settings->carry);
             tell_taken_out(protocol, link);
-            lose_link(protocol, link);
+            lose_and_release_link(protocol, link);
         }
         known = known || named;
         if (!named) continue;
@@ -249,7 +251,7 @@ void watch_carriers(struct protocol *protocol, bool tick) {
     EACH_LINK(link, protocol->ports) {
         bool changed = link->socket >= 0 && see_new_carrier(link);
         if (!changed && link->up && !link->away) note_carrier(protocol->settings, link);
-        if (changed || (link->socket >= 0 && choose_whether_waited(protocol, link))) any = ask_for(&protocol->changes, link->index, 0) || any;
+        if (changed || (link->socket >= 0 && choose_aggregator_and_whether_waited(protocol, link))) any = ask_for(&protocol->changes, link->index, 0) || any;
     }
     if (any) receive_changes(protocol);
 }

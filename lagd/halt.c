@@ -7,12 +7,12 @@
 
 static void fall_silent(struct protocol *protocol) {
     protocol->halt.silent = true;
-    EACH_LINK(link, protocol->ports) set_link(protocol, link, false);
+    EACH_LINK(link, protocol->ports) set_link_send_and_tell(protocol, link, false);
 }
 
 /* Tells each peer that its port is out of use, and then nothing more. */
 static void tell_peers_of_halt(struct protocol *protocol) {
-    EACH_LINK(link, protocol->ports) expect_lacpdu(link);
+    EACH_LINK(link, protocol->ports) note_peer_to_tell(link);
     apply_holds(protocol->core, protocol->ports, protocol->halt.down);
     send_due(protocol);
     read_views(protocol->core, protocol->ports);

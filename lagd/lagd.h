@@ -288,7 +288,7 @@ struct choice {
     uint16_t followed; /* an aggregator in which the peer alone sends, whatever this end prefers, or 0 */
 };
 
-/* LACP: the system of the library, what the kernel tells of interfaces, and which ports the bundle has. */
+/* LACP: what the kernel tells of interfaces, which ports the bundle has, and its state. */
 struct protocol {
     struct process *process;
     struct core *core;
@@ -454,9 +454,9 @@ void tell_markers(struct lines *lines, uint64_t ticks, struct link *link);
 void look_for_twins(struct lines *lines, struct ports *ports);
 
 /* restore.c */
-bool choose_whether_restored(struct protocol *protocol, struct link *link);
+bool choose_aggregator_and_whether_restored(struct protocol *protocol, struct link *link);
 void set_waiting(struct link *link, bool waits);
-bool choose_whether_waited(struct protocol *protocol, const struct link *link);
+bool choose_aggregator_and_whether_waited(struct protocol *protocol, const struct link *link);
 void note_carrier(const struct settings *settings, struct link *link);
 bool note_whether_stays_up(const struct process *process, struct link *link, bool carrier, bool lost);
 
@@ -488,23 +488,23 @@ bool has_other_speed(const struct settings *settings, const struct link *link);
 const char *speed_text(const struct speed *speed, char room[static 40]);
 
 /* system.c */
-void make_system(struct protocol *protocol);
+void make_ports_and_system_or_stop(struct protocol *protocol);
 size_t resume_system(struct core *core, const struct protocol *protocol, struct niw_saved *saved, size_t count);
-void set_link(struct protocol *protocol, struct link *link, bool up);
+void set_link_send_and_tell(struct protocol *protocol, struct link *link, bool up);
 bool apply_hold(struct core *core, const struct link *link, bool down) MUST_USE;
 void apply_holds(struct core *core, const struct ports *ports, bool down);
-void lose_link(struct protocol *protocol, struct link *link);
+void lose_and_release_link(struct protocol *protocol, struct link *link);
 void send_due(struct protocol *protocol);
-void settle_calls(struct protocol *protocol);
+void send_due_and_read_views(struct protocol *protocol);
 void send_again(struct core *core, struct changes *changes, struct ports *ports);
 bool pass_system_tick(struct core *core, struct ports *ports);
 uint64_t seconds_since(uint64_t began);
 uint64_t milliseconds_of(clockid_t clock);
 uint64_t milliseconds(void);
-void expect_lacpdu(struct link *link);
-void tell_end(struct protocol *protocol);
+void note_peer_to_tell(struct link *link);
+void leave_aggregators_and_tell_peers(struct protocol *protocol);
 bool end_is_told(const struct ports *ports);
-bool end_system(struct protocol *protocol);
+bool end_bundle_and_system(struct protocol *protocol);
 
 /* membership.c */
 #define ORDER_ROOM 384
@@ -553,7 +553,7 @@ struct worth worth_of(const struct protocol *protocol, uint16_t aggregator);
 uint64_t patience_with(const struct protocol *protocol, uint16_t active, uint16_t other);
 void follow_peer(struct protocol *protocol, uint16_t aggregator);
 void choose_aggregator(struct protocol *protocol, struct bundle *now);
-bool is_as_good_as_any(struct protocol *protocol, uint16_t aggregator);
+bool is_as_good_as_any(struct core *core, const struct protocol *protocol, uint16_t aggregator);
 
 /* bundle.c */
 void look_at_bundle(struct protocol *protocol);
@@ -624,11 +624,11 @@ const char *read_port(struct words *words, char *text, struct settings *settings
 
 /* status.c */
 #define REFUSAL "refused: " /* begins the answer to who has no place */
-void open_status(struct process *process, const char *folder);
+void open_status_or_stop(struct process *process, const char *folder);
 void accept_callers(struct status *own, int epoll_file);
 void pass_tick_of_callers(struct status *own, int epoll_file);
 void tell_watchers(struct status *own, const char *text, size_t length, bool json);
-void tell_watchers_of(struct core *core, const struct control *control, const struct link *link);
+void write_report_and_tell_watchers(struct core *core, const struct control *control, const struct link *link);
 
 /* state.c, resume.c */
 uint64_t boottime(void);
@@ -637,7 +637,7 @@ bool was_away_briefly(const struct inherited *inherited);
 bool lacpdu_holds(uint64_t now, uint64_t then, bool short_timeout);
 bool has_carried_links(const struct inherited *inherited);
 unsigned resume(struct protocol *protocol);
-void release_others(struct protocol *protocol);
+void set_links_up_and_end_resuming(struct protocol *protocol);
 void resume_data(struct protocol *protocol, unsigned count);
 
 /* carry.c */

@@ -222,8 +222,8 @@ static void run(struct lagd *lagd, int signals, int clock, const char *file) {
         if (ends || !(ends_now || lagd->core.broken)) continue;
         ends = true;
         notify("STOPPING=1");
-        end_state(&lagd->state);
-        tell_end(&lagd->protocol);
+        remove_state(&lagd->state);
+        leave_aggregators_and_tell_peers(&lagd->protocol);
     }
 }
 
@@ -245,21 +245,21 @@ static int run_daemon(struct lagd *lagd, const struct options *options) {
     lagd->process.folder = open_folder(options->folder);
     receive_stored(&lagd->process);
     choose_plane(&lagd->plane, &lagd->settings);
-    recall_state(&lagd->state);
-    make_system(&lagd->protocol);
+    recall_state_or_leave_device(&lagd->state);
+    make_ports_and_system_or_stop(&lagd->protocol);
     lagd->process.resuming = has_carried_links(&lagd->inherited);
     if (lagd->process.inherited->others && !lagd->plane.carrying->keeps_members) release_former_members(&lagd->plane);
     CALL(lagd->plane.carrying->open, &lagd->plane);
     note_halt_at_start(&lagd->protocol.halt, lagd->device.index != 0 && !is_tap_up(&lagd->device), lagd->process.resuming);
     need(await_input(lagd->process.epoll_file, open_changes(&lagd->protocol), CHANGES), "epoll");
-    open_status(&lagd->process, options->folder);
+    open_status_or_stop(&lagd->process, options->folder);
     int clock = open_clock();
     need(await_input(lagd->process.epoll_file, signals, SIGNALS) && await_input(lagd->process.epoll_file, clock, CLOCK), "epoll");
     drop_privileges(&lagd->process.lines, lagd->plane.carrying->administers);
     unsigned resumed = resume(&lagd->protocol);
     lagd->process.has_started = true;
     resume_data(&lagd->protocol, resumed);
-    release_others(&lagd->protocol);
+    set_links_up_and_end_resuming(&lagd->protocol);
     halt_if_down(&lagd->protocol);
     leave_left_ports(&lagd->protocol);
     CALL(lagd->plane.carrying->end_resuming, &lagd->plane);
@@ -271,7 +271,7 @@ static int run_daemon(struct lagd *lagd, const struct options *options) {
     run(lagd, signals, clock, options->file);
     if (lagd->process.has_left) return DONE;
     end_carry(&lagd->plane);
-    return end_system(&lagd->protocol) ? DONE : REFUSED;
+    return end_bundle_and_system(&lagd->protocol) ? DONE : REFUSED;
 }
 
 int main(int argc, char **argv) {

@@ -132,7 +132,7 @@ void join_port(struct protocol *protocol, struct link *link, const struct port_s
 static void end_leaving(struct protocol *protocol, struct link *link) {
     uint16_t port = link->settings.number;
     link->used = false; /* no line tells that its interface is missing */
-    if (link->socket >= 0) lose_link(protocol, link);
+    if (link->socket >= 0) lose_and_release_link(protocol, link);
     (void)say(protocol->core->lines, LOG_NOTICE | ABOUT_PORT, "port %u %s: it left the bundle", port, link->name);
     protocol->settings->ports[port - 1] = unset_port();
     begin_link(protocol->settings, link, port);
@@ -159,7 +159,7 @@ static void end_emptying(struct protocol *protocol, struct link *link) {
     link->emptying = false;
     link->leaves_since = milliseconds();
     CALL(protocol->plane->carrying->drain, protocol->plane, link);
-    if (apply_hold(protocol->core, link, protocol->halt.down)) settle_calls(protocol);
+    if (apply_hold(protocol->core, link, protocol->halt.down)) send_due_and_read_views(protocol);
 }
 
 /* A port goes: its peer is told, and its conversations leave it. One whose link is down is gone at once. */
@@ -171,7 +171,7 @@ void leave_port(struct protocol *protocol, struct link *link) {
         return;
     }
     (void)say(protocol->core->lines, LOG_NOTICE | ABOUT_PORT, "port %u %s: it leaves the bundle", link->settings.number, link->name);
-    if (begin_hold(protocol, link)) settle_calls(protocol);
+    if (begin_hold(protocol, link)) send_due_and_read_views(protocol);
 }
 
 void stay_port(struct protocol *protocol, struct link *link) {
@@ -179,7 +179,7 @@ void stay_port(struct protocol *protocol, struct link *link) {
     link->leaving = false;
     link->changed = true;
     (void)say(protocol->core->lines, LOG_NOTICE | ABOUT_PORT, "port %u %s: it stays in the bundle", link->settings.number, link->name);
-    if (begin_hold(protocol, link)) settle_calls(protocol);
+    if (begin_hold(protocol, link)) send_due_and_read_views(protocol);
 }
 
 /* Whether nothing of ours is on a link that is held, and its partner sends nothing more there, as far as it tells. */
@@ -267,7 +267,7 @@ bool take_new_name(struct protocol *protocol, struct link *link, const struct in
         return false;
     (void)say(protocol->core->lines, LOG_NOTICE | ABOUT_PORT, "port %u %s: its name is %s now", link->settings.number, name, interface->name);
     memcpy(name, interface->name, sizeof interface->name);
-    tell_watchers_of(protocol->core, protocol->control, link);
+    write_report_and_tell_watchers(protocol->core, protocol->control, link);
     return true;
 }
 
@@ -306,7 +306,7 @@ static const char *add_or_keep_by_words(struct protocol *protocol, char *text, u
     if (known) {
         stay_port(protocol, known);
         protocol->settings->ports[*port - 1] = *settings;
-        if (change_port(protocol, known, protocol->settings)) settle_calls(protocol);
+        if (change_port(protocol, known, protocol->settings)) send_due_and_read_views(protocol);
     } else {
         join_port(protocol, link, settings);
     }
@@ -321,7 +321,7 @@ static bool hold_by_word(struct protocol *protocol, struct link *link, bool hold
         link->held = hold;
         if (!begin_hold(protocol, link)) return true;
         protocol->settings->ports[link->settings.number - 1].hold = hold;
-        settle_calls(protocol);
+        send_due_and_read_views(protocol);
     }
     return !hold || note_whether_left(protocol->core, link);
 }

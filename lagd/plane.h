@@ -52,7 +52,7 @@ struct carrying {
     void (*forget)(struct plane *plane, const struct link *link); /* another interface is to be this port: what is known of it begins anew */
     void (*send_marker)(struct plane *plane, struct link *link, const uint8_t *marker); /* one is due */
     void (*note_response)(struct plane *plane, const struct link *link); /* its partner answered a marker */
-    bool (*see_port)(struct plane *plane, const struct link *link, int master); /* whether one of this master is a port still; a line, where not */
+    bool (*see_port)(const struct plane *plane, const struct link *link, int master); /* whether one of this master is a port still */
     void (*settle)(struct plane *plane);                 /* calls may have changed something */
     void (*tick)(struct plane *plane);                   /* 100 ms passed */
     bool (*keeps_aggregator)(const struct plane *plane);       /* whether the active one stays where another one has as many ports */

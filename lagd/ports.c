@@ -89,7 +89,7 @@ bool print_change(struct core *core, const struct protocol *protocol, struct lin
     if (!core->lines->process->has_started || !link->used) return false;
     if (!same && !watched) {
         link->changed_at = time(NULL);
-        tell_watchers_of(core, protocol->control, link);
+        write_report_and_tell_watchers(core, protocol->control, link);
     }
     link->watched = true;
     link->shown = facts;

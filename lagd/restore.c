@@ -12,7 +12,7 @@ static bool choose_and_find_few(struct protocol *protocol) {
 }
 
 /* Answers whether a link that waits has waited long enough: before its time is over, the aggregator is chosen for that. */
-static bool choose_whether_over(struct protocol *protocol, const struct link *link) {
+static bool choose_aggregator_and_whether_over(struct protocol *protocol, const struct link *link) {
     return milliseconds() - link->steady_since >= protocol->settings->wait_to_restore * (uint64_t)1000 || choose_and_find_few(protocol);
 }
 
@@ -23,10 +23,10 @@ void set_waiting(struct link *link, bool waits) {
 
 /* The carrier of a link is there, and was so since the last call; answers whether the link is up, or has to wait. What is there at the start
  * does not wait. */
-bool choose_whether_restored(struct protocol *protocol, struct link *link) {
+bool choose_aggregator_and_whether_restored(struct protocol *protocol, struct link *link) {
     if (link->up || !protocol->process->has_started) return true;
     if (!link->waits) link->steady_since = milliseconds();
-    set_waiting(link, !choose_whether_over(protocol, link));
+    set_waiting(link, !choose_aggregator_and_whether_over(protocol, link));
     return !link->waits;
 }
 
@@ -42,9 +42,9 @@ static bool is_away_too_long(uint16_t delay_down, const struct link *link) {
     return milliseconds() - link->carried_at >= delay_down;
 }
 
-/* Answers whether a link waits no longer, as choose_whether_over does: the kernel is asked then whether its carrier is still there, or away. */
-bool choose_whether_waited(struct protocol *protocol, const struct link *link) {
-    return (link->waits && choose_whether_over(protocol, link)) || (link->away && is_away_too_long(protocol->settings->delay_down, link));
+/* Answers whether a link waits no longer, as choose_aggregator_and_whether_over does: the kernel is asked then whether its carrier is still there, or away. */
+bool choose_aggregator_and_whether_waited(struct protocol *protocol, const struct link *link) {
+    return (link->waits && choose_aggregator_and_whether_over(protocol, link)) || (link->away && is_away_too_long(protocol->settings->delay_down, link));
 }
 
 /* The kernel told of a link whether its carrier is there, and whether it was lost since: answers whether the link stays up all the same. What is

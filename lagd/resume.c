@@ -69,7 +69,7 @@ static void tell_links(struct process *process, const struct ports *ports, unsig
 }
 
 /* Once the interfaces are taken up: the ports that distributed do so again. Answers how many went on. Nothing but conversations that stay where they
- * were comes before release_others: so the system goes on from the last one as a warm start does. */
+ * were comes before set_links_up_and_end_resuming: so the system goes on from the last one as a warm start does. */
 unsigned resume(struct protocol *protocol) {
     struct niw_saved saved[NIW_MOST_PORTS];
     size_t count = 0;
@@ -85,14 +85,14 @@ unsigned resume(struct protocol *protocol) {
 
 /* Behind the conversations that stay: the settings hold ports, and the links that are up come up for the library, too. Those that went on were up
  * before, so none of the others takes the place of one where links are limited. */
-void release_others(struct protocol *protocol) {
+void set_links_up_and_end_resuming(struct protocol *protocol) {
     apply_holds(protocol->core, protocol->ports, false);
     EACH_LINK(link, protocol->ports)
         if (protocol->process->resuming && link->up
             && !is_done(protocol->core, niw_set_link(&protocol->core->system, link->settings.number, true), "niw_set_link"))
             break;
     protocol->process->resuming = false;
-    settle_calls(protocol);
+    send_due_and_read_views(protocol);
 }
 
 static void stay_on_port(struct carry *carry, uint16_t number, uint16_t port) {
@@ -103,10 +103,10 @@ static void stay_on_port(struct carry *carry, uint16_t number, uint16_t port) {
 }
 
 /* The port of an interface that carries in the active aggregator, or 0. */
-static uint16_t port_carrying_on(struct carry *carry, int index) {
-    EACH_LINK(link, carry->ports)
+static uint16_t port_carrying_on(struct core *core, const struct carry *carry, int index) {
+    EACH_LINK_AS_IS(link, carry->ports)
         if (index != 0 && link->socket >= 0 && link->index == index && link->view.aggregator == carry->active
-            && is_told_distributing(carry->core, link->settings.number, true))
+            && is_told_distributing(core, link->settings.number, true))
             return link->settings.number;
     return 0;
 }
@@ -120,7 +120,7 @@ void resume_conversations(struct plane *plane, bool goes_on) {
     }
     for (uint16_t number = 0; goes_on && number < CONVERSATIONS; number++) {
         int member = ASK(plane->carrying->member_of, 0, plane, number);
-        uint16_t port = port_carrying_on(carry, member != 0 ? member : carry->process->inherited->members[number]);
+        uint16_t port = port_carrying_on(carry->core, carry, member != 0 ? member : carry->process->inherited->members[number]);
         if (port != 0) stay_on_port(carry, number, port);
     }
     CALL(plane->passing->resume, plane->tap);

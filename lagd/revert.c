@@ -9,19 +9,19 @@ static uint32_t identifier_of(const struct link *link) {
 }
 
 /* The port that stands by in an aggregator and takes the next place there, or NULL. */
-static struct link *next_of(struct ports *ports, uint16_t aggregator) {
-    struct link *next = NULL;
-    EACH_LINK(link, ports)
+static const struct link *next_of(const struct ports *ports, uint16_t aggregator) {
+    const struct link *next = NULL;
+    EACH_LINK_AS_IS(link, ports)
         if (link->view.aggregator == aggregator && link->view.standby && (!next || identifier_of(link) < identifier_of(next)))
             next = link;
     return next;
 }
 
 /* The port in use that gives way first in an aggregator with more of them than so many, or NULL. */
-static struct link *last_beyond(struct ports *ports, uint16_t aggregator, uint16_t most) {
-    struct link *last = NULL;
+static const struct link *last_beyond(const struct ports *ports, uint16_t aggregator, uint16_t most) {
+    const struct link *last = NULL;
     unsigned count = 0;
-    EACH_LINK(link, ports) {
+    EACH_LINK_AS_IS(link, ports) {
         if (link->view.aggregator != aggregator || link->view.standby || !link->up) continue;
         count++;
         if (!last || identifier_of(last) < identifier_of(link)) last = link;
@@ -48,7 +48,7 @@ static bool would_distribute(struct core *core, const struct link *link) {
 /* Holds the ports that are too many under a limit, which are marked; answers whether that is done. */
 static bool hold_surplus(struct core *core, struct ports *ports, uint16_t aggregators, uint16_t most, bool *marked) {
     for (uint16_t aggregator = 1; aggregator <= aggregators; aggregator++)
-        for (struct link *last; (last = last_beyond(ports, aggregator, most));) {
+        for (const struct link *last; (last = last_beyond(ports, aggregator, most));) {
             if (!is_done(core, niw_hold(&core->system, last->settings.number, true), "niw_hold")) return false;
             marked[last->settings.number - 1] = true;
             read_views(core, ports);
@@ -74,14 +74,14 @@ void pass_revert_second(struct protocol *protocol) {
     if (!protocol->settings->revert || protocol->halt.down) return;
     read_views(protocol->core, protocol->ports);
     for (uint16_t aggregator = 1; aggregator <= protocol->aggregator_count; aggregator++) {
-        struct link *next = next_of(protocol->ports, aggregator), *last = last_beyond(protocol->ports, aggregator, 0);
+        const struct link *next = next_of(protocol->ports, aggregator), *last = last_beyond(protocol->ports, aggregator, 0);
         if (!next || !last || identifier_of(next) >= identifier_of(last)) continue;
         if (!all_distribute(protocol->ports, aggregator) || !would_distribute(protocol->core, next)) continue;
         if (!is_done(protocol->core, niw_hold(&protocol->core->system, last->settings.number, true), "niw_hold")) return;
         if (!apply_hold(protocol->core, last, protocol->halt.down)) return;
         (void)say(protocol->core->lines, LOG_NOTICE | ABOUT_PORT, "port %u %s: it makes way for port %u %s", last->settings.number, last->name,
             next->settings.number, next->name);
-        settle_calls(protocol);
+        send_due_and_read_views(protocol);
         return;
     }
 }

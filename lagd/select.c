@@ -64,10 +64,10 @@ static uint16_t best_after(const struct protocol *protocol, uint16_t before) {
 
 /* The aggregator that carries, where `before` carried last; 0 for none. The library takes one on defaults only where none has a partner. If
  * a partner is required, its links do not carry, and the answer is 0. */
-static uint16_t aggregator_after(struct protocol *protocol, uint16_t before) {
+static uint16_t aggregator_after(struct core *core, const struct protocol *protocol, uint16_t before) {
     uint64_t aggregator;
     if (protocol->settings->select != SELECT_COUNT) return best_after(protocol, before);
-    if (!is_told(protocol->core, niw_active_aggregator(&protocol->core->system, before), "niw_active_aggregator", &aggregator)) return 0;
+    if (!is_told(core, niw_active_aggregator(&core->system, before), "niw_active_aggregator", &aggregator)) return 0;
     return worth_of(protocol, (uint16_t)aggregator).links > 0 ? (uint16_t)aggregator : 0;
 }
 
@@ -79,14 +79,14 @@ void choose_aggregator(struct protocol *protocol, struct bundle *now) {
     struct worth followed = worth_of(protocol, own->followed);
     bool stays = protocol->settings->select == SELECT_PRIORITY_STABLE || ASK(protocol->plane->carrying->keeps_aggregator, true, protocol->plane);
     if (protocol->settings->select == SELECT_COUNT || !followed.has_partner || followed.links < protocol->settings->min_links) own->followed = 0;
-    own->last = now->aggregator = own->followed != 0 ? own->followed : aggregator_after(protocol, stays ? own->last : 0);
+    own->last = now->aggregator = own->followed != 0 ? own->followed : aggregator_after(protocol->core, protocol, stays ? own->last : 0);
     now->carrying = worth_of(protocol, now->aggregator).links;
 }
 
 /* Whether no aggregator is preferred to this one, were it the one that carried last. By count none has a partner where this one has none, or more
  * ports. */
-bool is_as_good_as_any(struct protocol *protocol, uint16_t aggregator) {
-    return aggregator != 0 && aggregator_after(protocol, aggregator) == aggregator;
+bool is_as_good_as_any(struct core *core, const struct protocol *protocol, uint16_t aggregator) {
+    return aggregator != 0 && aggregator_after(core, protocol, aggregator) == aggregator;
 }
 
 /* For how long the partner of the active aggregator may send in another one alone until this end goes there, as PATIENCE has it; 0: for ever.
@@ -102,7 +102,7 @@ uint64_t patience_with(const struct protocol *protocol, uint16_t active, uint16_
 void follow_peer(struct protocol *protocol, uint16_t aggregator) {
     struct choice *own = &protocol->choice;
     own->last = aggregator;
-    own->followed = aggregator_after(protocol, 0) == aggregator ? 0 : aggregator;
+    own->followed = aggregator_after(protocol->core, protocol, 0) == aggregator ? 0 : aggregator;
     if (own->followed == 0)
         (void)say(protocol->core->lines, LOG_NOTICE | ABOUT_BUNDLE, "bundle %s: the peer sends in aggregator %u: it carries",
             protocol->settings->name, aggregator);

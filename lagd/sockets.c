@@ -21,7 +21,7 @@ unsigned long network_namespace(void) {
 }
 
 /* Whether a file is the status socket of a daemon of this namespace, of which bundle. */
-static bool is_socket(const char *name, struct found_socket *socket) {
+static bool read_socket_name(const char *name, struct found_socket *socket) {
     char head[32];
     size_t length = (size_t)snprintf(head, sizeof head, "%lu.", network_namespace()), whole = strlen(name);
     if (strncmp(name, head, length) != 0 || whole <= length + 5 || strcmp(name + whole - 5, ".sock") != 0) return false;
@@ -42,7 +42,7 @@ void find_sockets(struct found *found, const char *folder, bool deeper) {
         const char *name = entries[i]->d_name;
         bool fits = name[0] != '.' && snprintf(path, sizeof path, "%s/%s", folder, name) < (int)sizeof path;
         struct stat file;
-        if (fits && found->count < MOST_DAEMONS && is_socket(name, &found->sockets[found->count]))
+        if (fits && found->count < MOST_DAEMONS && read_socket_name(name, &found->sockets[found->count]))
             memcpy(found->sockets[found->count++].path, path, sizeof path);
         else if (fits && deeper && lstat(path, &file) == 0 && S_ISDIR(file.st_mode))
             find_sockets(found, path, false);

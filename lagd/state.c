@@ -50,30 +50,29 @@ static bool is_carrying(const struct link *link) {
 }
 
 /* Writes the interface of each conversation: the one that it leaves, while it is held. */
-static void write_conversations(struct state *own, FILE *file) {
-    struct carry *carry = own->carry;
-    memset(own->members, 0, sizeof own->members);
+static void write_conversations(struct core *core, const struct carry *carry, int members[static CONVERSATIONS], FILE *file) {
+    memset(members, 0, CONVERSATIONS * sizeof *members);
     for (uint16_t number = 0; number < CONVERSATIONS; number++) {
         struct niw_assignment assigned;
         uint16_t home = carry->conversations[number].home;
-        if (home == 0 || !ask_state(carry->core, home, number, &assigned)
+        if (home == 0 || !ask_state(core, home, number, &assigned)
             || assigned.what == NIW_CONVERSATION_FREE)
             continue;
         if (assigned.port == 0 || assigned.port > carry->ports->count) continue;
-        own->members[number] = carry->ports->links[assigned.port - 1].index;
-        fprintf(file, "on %u %d\n", number, own->members[number]);
+        members[number] = carry->ports->links[assigned.port - 1].index;
+        fprintf(file, "on %u %d\n", number, members[number]);
     }
 }
 
-static void write_state(struct state *own, FILE *file) {
+static void write_state(struct core *core, struct state *own, FILE *file) {
     struct carry *carry = own->carry;
     struct protocol *protocol = carry->protocol;
-    struct niw_marker marker = niw_next_marker(&protocol->core->system);
+    struct niw_marker marker = niw_next_marker(&core->system);
     char boot[BOOT_ROOM], room[WAY_ROOM], mac[32];
     fprintf(file, "lagd %u\nboot %s\nway %s\n", FORM_VERSION, boot_id(boot), way_text(carry, room));
     fprintf(file, "space %" PRIu64 "\nwritten %" PRIu64 "\n", own->space, boottime());
     if (own->copy_folder >= 0) fprintf(file, "wall %" PRIu64 "\n", milliseconds_of(CLOCK_REALTIME));
-    fprintf(file, "marker %" PRIu32 "\n", is_done(carry->core, marker.status, "niw_next_marker") && marker.left ? marker.id : 0);
+    fprintf(file, "marker %" PRIu32 "\n", is_done(core, marker.status, "niw_next_marker") && marker.left ? marker.id : 0);
     fprintf(file, "bundle %u %u %lld\n", protocol->bundle.state, protocol->bundle.aggregator, (long long)protocol->bundle.changed_at);
     if (protocol->choice.followed != 0) fputs("follows\n", file);
     if (carry->device->index != 0)
@@ -88,7 +87,7 @@ static void write_state(struct state *own, FILE *file) {
         for (size_t i = 0; i < NIW_FRAME; i++) fprintf(file, "%02x", link->lacpdu[i]);
         fprintf(file, " %u\n", link->view.aggregator);
     }
-    write_conversations(own, file);
+    write_conversations(carry->core, carry, own->members, file);
     fputs("end\n", file);
 }
 
@@ -112,14 +111,14 @@ static void remove_new_copies(const struct state *own) {
 }
 
 /* Puts a whole file in the place of the last one; it is on the disk, and so is its name, if it `lasts`. Answers it, or NULL, and errno tells why. */
-static FILE *replace_file(struct state *own, int folder, const char *name, bool lasts) {
+static FILE *replace_file(struct core *core, struct state *own, int folder, const char *name, bool lasts) {
     char new_name[NAME_ROOM + 64];
     snprintf(new_name, sizeof new_name, "%s.new", name);
     if (lasts) snprintf(new_name, sizeof new_name, "%s.%d.new", name, (int)getpid()); /* whoever writes a copy has a file of its own */
     FILE *file = open_in(folder, new_name, O_WRONLY | O_CREAT | O_TRUNC | O_APPEND, "a");
     if (!file) return NULL;
-    write_state(own, file);
-    if (fflush(file) == 0 && !ferror(file) && (!lasts || fsync(fileno(file)) == 0) && !own->carry->core->broken
+    write_state(core, own, file);
+    if (fflush(file) == 0 && !ferror(file) && (!lasts || fsync(fileno(file)) == 0) && !core->broken
         && renameat(folder, new_name, folder, name) == 0 && (!lasts || fsync(folder) == 0))
         return file;
     int fault = errno;
@@ -140,7 +139,7 @@ static void give_up_file(struct state *own) {
 }
 
 /* The next frame of a conversation goes on this port: a daemon that goes on from here has to know. */
-void keep_port(struct state *own, uint16_t number, uint16_t port) {
+void write_port_of_conversation(struct state *own, uint16_t number, uint16_t port) {
     int index = own->carry->ports->links[port - 1].index;
     if (!own->file || own->members[number] == index) return;
     own->members[number] = index;
@@ -172,7 +171,7 @@ struct copied {
 };
 
 /* What is wrong with a copy has a line, of several faults in a row the first one, and so has their end. */
-static void note_copy(struct state *own, struct copied copied) {
+static void tell_outcome_of_copy(struct state *own, struct copied copied) {
     struct process *process = own->carry->process;
     const char *folder = own->carry->settings->state_dir;
     bool failed = copied.written < 0 || copied.removed < 0;
@@ -208,7 +207,7 @@ static _Noreturn void run_copier(struct state *own, int told, pid_t daemon) {
     sigemptyset(&none);
     sigprocmask(SIG_SETMASK, &none, NULL);
     remove_new_copies(own);
-    if (wanted && !replace_file(own, own->copy_folder, own->copy_name, true)) copied.written = last_fault();
+    if (wanted && !replace_file(own->carry->core, own, own->copy_folder, own->copy_name, true)) copied.written = last_fault();
     if (!wanted || copied.written < 0) copied.removed = remove_file(own->copy_folder, own->copy_name, true);
     (void)!write(told, &copied, sizeof copied);
     _exit(DONE);
@@ -239,32 +238,32 @@ static struct copied fault_of_copy(const struct state *own, int fault) {
 }
 
 /* Sees whether a copy was written. One whose process was killed is there, or is not. */
-static void see_copy(struct state *own) {
+static void read_copier_and_tell(struct state *own) {
     struct copied copied = fault_of_copy(own, -ECANCELED);
     if (own->copied < 0 || (read(own->copied, &copied, sizeof copied) < 0 && errno == EAGAIN)) return;
     forget_copier(&own->copied);
     own->has_copy = copied.removed < 0 || copied.written == -ECANCELED || (copied.written == 0 && own->copied_ports != 0);
-    note_copy(own, copied);
+    tell_outcome_of_copy(own, copied);
 }
 
 /* A second passed: the copy is written anew where other ports would go on from it, or it gets old. */
 static void pass_copy_second(struct state *own) {
     uint64_t ports = lasting_ports(own->carry->ports), now = boottime();
-    see_copy(own);
-    if (own->copied >= 0 && now - own->copied_at >= COPIED_EVERY && !own->copy_failed) note_copy(own, fault_of_copy(own, HANGS));
+    read_copier_and_tell(own);
+    if (own->copied >= 0 && now - own->copied_at >= COPIED_EVERY && !own->copy_failed) tell_outcome_of_copy(own, fault_of_copy(own, HANGS));
     if (own->copied >= 0 || (ports == 0 && !own->has_copy) || (ports == own->copied_ports && now - own->copied_at < COPIED_EVERY)) return;
     own->copied_ports = ports;
     own->copied_at = now;
     own->has_copy = true;
     int fault = start_copier(own);
-    if (fault < 0) note_copy(own, fault_of_copy(own, fault));
+    if (fault < 0) tell_outcome_of_copy(own, fault_of_copy(own, fault));
 }
 
 /* Waits for who writes a copy; answers whether that one is done, or there is none. */
 static bool await_copier(struct state *own) {
     struct pollfd told = {own->copied, POLLIN, 0};
     bool done = own->copied < 0 || poll(&told, 1, MOST_COPYING) > 0;
-    see_copy(own);
+    read_copier_and_tell(own);
     forget_copier(&own->copied);
     return done;
 }
@@ -281,14 +280,14 @@ static void finish_copy(struct state *own, bool wanted) {
         fault = start_copier(own);
     }
     if (fault == 0 && !await_copier(own)) fault = HANGS;
-    if (fault < 0) note_copy(own, fault_of_copy(own, fault));
+    if (fault < 0) tell_outcome_of_copy(own, fault_of_copy(own, fault));
 }
 
 /* Writes the state; answers whether it did. Where that fails there is none. */
 bool save_state(struct state *own, bool leaves) {
     struct process *process = own->carry->process;
     if (own->over || own->carry->core->broken || !process->has_started) return false;
-    FILE *file = replace_file(own, process->folder, own->name, false);
+    FILE *file = replace_file(own->carry->core, own, process->folder, own->name, false);
     if (!file) give_up_file(own);
     if (file) own->failed = false;
     keep_file(own, file);
@@ -298,7 +297,7 @@ bool save_state(struct state *own, bool leaves) {
 }
 
 /* The peers are told of the end: no daemon goes on from here. */
-void end_state(struct state *own) {
+void remove_state(struct state *own) {
     struct process *process = own->carry->process;
     own->over = true;
     keep_file(own, NULL);
@@ -416,7 +415,7 @@ static const char *bring_over(struct inherited *inherited) {
 }
 
 /* Takes over a state; answers NULL, or why it counts for nothing. In another network namespace its numbers of interfaces are those of others. */
-static const char *take_over_state(struct state *own, FILE *file, bool is_copy) {
+static const char *read_state_or_leave_device(struct state *own, FILE *file, bool is_copy) {
     struct inherited *inherited = own->carry->process->inherited;
     unsigned version;
     char boot[BOOT_ROOM], now[BOOT_ROOM], given[WAY_ROOM], room[WAY_ROOM];
@@ -466,7 +465,7 @@ static void open_copy_folder(struct state *own) {
 }
 
 /* Reads what the last daemon left. What counts for nothing has a line, and the daemon starts anew. */
-void recall_state(struct state *own) {
+void recall_state_or_leave_device(struct state *own) {
     const struct settings *settings = own->carry->settings;
     snprintf(own->name, sizeof own->name, "%lu.%s.state", network_namespace(), settings->name);
     snprintf(own->copy_name, sizeof own->copy_name, "%s.state", settings->name);
@@ -475,7 +474,7 @@ void recall_state(struct state *own) {
     CLOSED_STREAM FILE *file = open_owned_state(own->carry->process->folder, own->name);
     bool is_copy = !file && own->copy_folder >= 0;
     if (is_copy) file = open_owned_state(own->copy_folder, own->copy_name);
-    const char *fault = file ? take_over_state(own, file, is_copy) : NULL;
+    const char *fault = file ? read_state_or_leave_device(own, file, is_copy) : NULL;
     if (!fault) return;
     *own->carry->process->inherited = (struct inherited){0};
     (void)say(own->carry->core->lines, LOG_WARNING | ABOUT_HANDOVER, "the state that the last daemon left is not used: %s", fault);

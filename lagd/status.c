@@ -19,7 +19,7 @@ static void close_caller(struct caller *caller) {
 }
 
 /* A free place for a user, or NULL, and why there is none. */
-static struct caller *free_caller(struct status *own, uid_t user, const char **why) {
+static struct caller *find_caller_place(struct status *own, uid_t user, const char **why) {
     struct caller *found = NULL;
     unsigned free_ones = 0, of_user = 0;
     EACH_CALLER(caller, own) {
@@ -46,7 +46,7 @@ static void accept_one(struct status *own, int epoll_file, int fd) {
     struct ucred who = {0};
     socklen_t length = sizeof who;
     const char *why = NULL;
-    struct caller *place = getsockopt(fd, SOL_SOCKET, SO_PEERCRED, &who, &length) == 0 ? free_caller(own, who.uid, &why) : NULL;
+    struct caller *place = getsockopt(fd, SOL_SOCKET, SO_PEERCRED, &who, &length) == 0 ? find_caller_place(own, who.uid, &why) : NULL;
     struct caller caller = {.fd = fd, .tag = place ? CALLERS + (uint32_t)(place - own->callers) : 0, .user = who.uid, .ticks = PATIENCE};
     if (place && await_input(epoll_file, fd, caller.tag)) {
         *place = caller;
@@ -120,7 +120,7 @@ static void send_report(struct control *control, struct caller *caller) {
     send_rest(caller, control->process->epoll_file);
 }
 
-static void read_question(struct control *control, struct caller *caller) {
+static void serve_question(struct control *control, struct caller *caller) {
     ssize_t got = recv(caller->fd, caller->question + caller->length, sizeof caller->question - 1 - caller->length, MSG_DONTWAIT);
     if (got < 0 && (errno == EAGAIN || errno == EINTR)) return;
     if (got > 0) caller->length += (size_t)got;
@@ -150,7 +150,7 @@ void serve_caller(struct control *control, uint32_t number) {
     if (caller->rest)
         send_rest(caller, control->process->epoll_file);
     else if (!caller->watches)
-        read_question(control, caller);
+        serve_question(control, caller);
     else if (recv(caller->fd, scrap, sizeof scrap, MSG_DONTWAIT) <= 0)
         close_caller(caller);
 }
@@ -171,7 +171,7 @@ void tell_watchers(struct status *own, const char *text, size_t length, bool jso
 }
 
 /* Tells those who watch in JSON how a port is now, or the bundle, where `link` is null, by the report of `control`. */
-void tell_watchers_of(struct core *core, const struct control *control, const struct link *link) {
+void write_report_and_tell_watchers(struct core *core, const struct control *control, const struct link *link) {
     struct status *own = core->lines->watchers;
     struct report *report = control->report;
     bool any = false;
@@ -196,7 +196,7 @@ static bool is_taken(const struct sockaddr_un *address) {
 
 /* The status socket, named for the namespace and the bundle: one that is left there, at which nobody listens, is nobody's. Its user and
  * group may ask, whatever the umask is. */
-void open_status(struct process *process, const char *folder) {
+void open_status_or_stop(struct process *process, const char *folder) {
     struct status *own = &process->status;
     struct sockaddr_un address = {.sun_family = AF_UNIX};
     own->left_in_tick = MOST_IN_TICK;

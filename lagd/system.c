@@ -62,7 +62,7 @@ size_t resume_system(struct core *core, const struct protocol *protocol, struct 
     return is_done(core, made.status, "niw_resume") ? count : 0;
 }
 
-void make_system(struct protocol *protocol) {
+void make_ports_and_system_or_stop(struct protocol *protocol) {
     protocol->began = milliseconds();
     protocol->settings->config.first_marker = first_marker_left(protocol->process->inherited);
     if (protocol->settings->config.first_marker == 0) protocol->settings->config.first_marker = random_marker();
@@ -98,7 +98,7 @@ void send_due(struct protocol *protocol) {
 }
 
 /* After calls that may have changed ports: what is due goes out, their views are read, and the plane looks at them again. */
-void settle_calls(struct protocol *protocol) {
+void send_due_and_read_views(struct protocol *protocol) {
     send_due(protocol);
     read_views(protocol->core, protocol->ports);
     protocol->plane->changed = true;
@@ -110,7 +110,7 @@ void send_again(struct core *core, struct changes *changes, struct ports *ports)
         if (link->unsent && !link->tried) send_frame(core, changes, link, link->frame);
 }
 
-void set_link(struct protocol *protocol, struct link *link, bool up) {
+void set_link_send_and_tell(struct protocol *protocol, struct link *link, bool up) {
     if (link->up == up) return;
     link->up = up;
     link->unsent = false;
@@ -124,13 +124,13 @@ void set_link(struct protocol *protocol, struct link *link, bool up) {
     if (protocol->process->resuming
         || !is_done(protocol->core, niw_set_link(&protocol->core->system, link->settings.number, up), "niw_set_link"))
         return;
-    settle_calls(protocol);
+    send_due_and_read_views(protocol);
     (void)print_change(protocol->core, protocol, link);
 }
 
-void lose_link(struct protocol *protocol, struct link *link) {
+void lose_and_release_link(struct protocol *protocol, struct link *link) {
     set_waiting(link, false);
-    set_link(protocol, link, false);
+    set_link_send_and_tell(protocol, link, false);
     release_interface(protocol->plane, &protocol->process->store, link);
     (void)print_change(protocol->core, protocol, link);
 }
@@ -154,18 +154,18 @@ bool pass_system_tick(struct core *core, struct ports *ports) {
 }
 
 /* A port is about to leave its aggregator: its peer has to be told, if it has one. */
-void expect_lacpdu(struct link *link) {
+void note_peer_to_tell(struct link *link) {
     link->to_tell = link->up && link->view.mux_state >= NIW_MUX_ATTACHED;
     link->sent_before_end = link->counters.lacpdus_sent;
 }
 
 /* Takes each port out of its aggregator, by a key that none has, and so tells the peers that they have to stop. */
-void tell_end(struct protocol *protocol) {
+void leave_aggregators_and_tell_peers(struct protocol *protocol) {
     uint16_t key = free_key(&protocol->keys, protocol->ports, 0, NULL);
     EACH_LINK(link, protocol->ports) {
         struct niw_change leave = {.key = key, .priority = link->settings.priority, .aggregatable = link->settings.aggregatable};
         uint32_t status = niw_configure(&protocol->core->system, link->settings.number, &leave).status;
-        expect_lacpdu(link);
+        note_peer_to_tell(link);
         link->to_tell = is_done(protocol->core, status, "niw_configure") && link->to_tell;
     }
     send_due(protocol);
@@ -179,7 +179,7 @@ bool end_is_told(const struct ports *ports) {
 }
 
 /* Says of each port that the daemon has ended, and frees the system; answers whether the library never refused a call. */
-bool end_system(struct protocol *protocol) {
+bool end_bundle_and_system(struct protocol *protocol) {
     EACH_LINK(link, protocol->ports)
         if (link->used) (void)say(protocol->core->lines, LOG_NOTICE | ABOUT_END, "port %u %s: ended", link->settings.number, link->name);
     end_bundle(protocol->core, &protocol->bundle, protocol->control);

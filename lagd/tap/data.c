@@ -25,7 +25,7 @@ static enum offered offer_frame(struct carry *carry, struct conversation *conver
     conversation->home = carry->active;
     conversation->port = (uint16_t)answer.number;
     conversation->since = 0;
-    keep_port(carry->state, number, conversation->port);
+    write_port_of_conversation(carry->state, number, conversation->port);
     return GOES;
 }
 

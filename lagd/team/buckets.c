@@ -117,7 +117,7 @@ static void leave_last_aggregator(struct team_plane *team) {
 }
 
 /* The driver refused what it was told of a port, which is taken up anew. Where the kernel has no memory, the next tick tells it again. */
-static void note_refusal(struct team_plane *team, uint16_t port, int fault) {
+static void lose_refused_member(struct team_plane *team, uint16_t port, int fault) {
     struct link *link = &team->ports->links[port - 1];
     bool is_short = fault == ENOBUFS || fault == ENOMEM;
     char name[IF_NAMESIZE];
@@ -129,10 +129,10 @@ static void note_refusal(struct team_plane *team, uint16_t port, int fault) {
     lose_member(team->protocol, link);
 }
 
-static bool pass_data_on_port(struct team_plane *team, uint16_t port, bool wanted) {
+static bool set_passing_or_lose_member(struct team_plane *team, uint16_t port, bool wanted) {
     if (team->passes[port - 1] == (wanted ? PASSES : PASSES_NOT)) return true;
     if (!set_port_enabled(team->family, team->device->index, team->ports->links[port - 1].index, wanted)) {
-        note_refusal(team, port, errno);
+        lose_refused_member(team, port, errno);
         return false;
     }
     team->passes[port - 1] = wanted ? PASSES : PASSES_NOT;
@@ -140,12 +140,12 @@ static bool pass_data_on_port(struct team_plane *team, uint16_t port, bool wante
 }
 
 /* Has the frames of each bucket go by the port that the library tells; answers whether all do. */
-static bool place_buckets(struct team_plane *team) {
+static bool place_buckets_or_lose_member(struct team_plane *team) {
     for (uint16_t number = 0; number < CONVERSATIONS; number++) {
         uint16_t port = place_conversation(team->carry, number);
         if (port == 0 || port == team->buckets[number].port) continue;
         if (!set_bucket(team->family, team->device->index, number, team->ports->links[port - 1].index)) {
-            note_refusal(team, port, errno);
+            lose_refused_member(team, port, errno);
             return false;
         }
         if (team->buckets[number].port != 0) team->carry->counts[MOVES]++;
@@ -163,11 +163,11 @@ static void place_in_active(struct team_plane *team) {
     leave_last_aggregator(team);
     for (uint16_t i = 0; i < carry->active_count; i++) {
         is_active[carry->active_ports[i] - 1] = true;
-        if (!pass_data_on_port(team, carry->active_ports[i], true)) return;
+        if (!set_passing_or_lose_member(team, carry->active_ports[i], true)) return;
     }
-    if (carry->active != 0 && !place_buckets(team)) return;
+    if (carry->active != 0 && !place_buckets_or_lose_member(team)) return;
     for (uint16_t i = 0; i < team->ports->count; i++)
-        if (team->taken[i] && !is_active[i] && !pass_data_on_port(team, (uint16_t)(i + 1), false)) return;
+        if (team->taken[i] && !is_active[i] && !set_passing_or_lose_member(team, (uint16_t)(i + 1), false)) return;
     team->shortages = 0;
     for (uint16_t number = 0; carry->active == 0 && number < CONVERSATIONS; number++) team->buckets[number].port = 0;
     if (carry->active != 0) set_carrier(team->device, true);
@@ -212,7 +212,7 @@ void pass_tick_of_team(struct plane *plane) {
     unsigned waiting = count_waiting_buckets(team);
     if (team->carry->time - team->looked_at >= (waiting > 0 ? LOOKED_WAITING : LOOKED_EVERY)) look_at_driver(team);
     if (waiting > 0) rest_silent_conversations(team->core, team, &team->carry->counts[RESTED]);
-    if (team->protocol->ticks % SECOND == 0) give_team_addresses(team);
+    if (team->protocol->ticks % SECOND == 0) give_addresses_or_lose_members(team);
     note_heard(team->carry);
     end_carry_tick(team->carry);
 }

@@ -15,7 +15,7 @@
 #define MOST_TRIES 10
 
 /* Tries whether the driver takes the mode: at a device of its own, which stays. */
-static bool try_team_mode(uint16_t family) {
+static bool make_device_to_try_mode(uint16_t family) {
     static const uint8_t mac[ETH_ALEN] = {2, 0, 0, 0, 0, 1};
     struct interface device;
     return make_team_device("team0", mac, ETH_DATA_LEN) && ask_interface(0, "team0", &device)
@@ -34,7 +34,7 @@ static uint32_t least_mtu(const struct settings *settings) {
     return least == 0 ? ETH_DATA_LEN : least;
 }
 
-static void lock_device(struct team_plane *team, int index) {
+static void lock_device_or_stop(struct team_plane *team, int index) {
     char what[128], holder[HOLDER_ROOM];
     team->lock = lock_interface(&team->process->store, team->process->inherited, index);
     if (team->lock == -EADDRINUSE) {
@@ -60,12 +60,12 @@ static bool has_own_ports(const struct settings *settings, const struct team_now
 }
 
 /* Takes a device that is there: that of the last daemon, or one that is of no use to others. */
-static void adopt_device(struct team_plane *team, const struct interface *device, const uint8_t *mac) {
+static void adopt_device_or_stop(struct team_plane *team, const struct interface *device, const uint8_t *mac) {
     struct team_now now;
     bool known = device->index == team->process->inherited->tap;
     if (strcmp(device->kind, TEAM_KIND) != 0)
         stop(REFUSED, team->settings->carry, "an interface of this name is there, and is no team device");
-    lock_device(team, device->index);
+    lock_device_or_stop(team, device->index);
     need(read_team(team->family, device->index, &now), team->settings->carry);
     if (strcmp(now.mode, MODE) != 0 && strcmp(now.mode, NO_MODE) != 0)
         stop(REFUSED, team->settings->carry, "a team device of another mode is there");
@@ -91,7 +91,7 @@ static bool drop_tap_and_find(struct process *process, const char *name, struct 
 }
 
 /* Has the driver spread frames over buckets, and tell what each of them sent. */
-static void configure_driver(uint16_t family, int index, const struct settings *settings, const char *mode_now) {
+static void configure_driver_or_stop(uint16_t family, int index, const struct settings *settings, const char *mode_now) {
     const uint32_t counted_every = 1; /* what each bucket has sent, in units of 100 ms */
     struct sock_filter steps[MOST_HASH_STEPS];
     size_t octets = make_team_hash(settings, steps) * sizeof *steps;
@@ -103,7 +103,7 @@ static void configure_driver(uint16_t family, int index, const struct settings *
 
 /* Gives a port the address of the device: frames to that would be of another host for the network stack. The driver puts back what it had. Some
  * cards take an address only while they are down; one that takes none even then is up again. Answers 0, or -errno. */
-static int give_address(int index, const uint8_t *mac) {
+static int give_address_down_if_busy(int index, const uint8_t *mac) {
     if (set_address(index, mac)) return 0;
     if (last_fault() != -EBUSY || !set_interface_up(index, false)) return last_fault();
     int fault = set_address(index, mac) ? 0 : last_fault();
@@ -113,12 +113,12 @@ static int give_address(int index, const uint8_t *mac) {
 
 /* The device has another address than some ports: who administers it may change it. A port that does not take it would lose what comes: it is
  * taken up anew. */
-void give_team_addresses(struct team_plane *team) {
+void give_addresses_or_lose_members(struct team_plane *team) {
     uint8_t mac[ETH_ALEN];
     if (!read_tap_mac(team->device, mac)) return;
     EACH_LINK(link, team->ports) {
         bool differs = team->taken[link - team->ports->links] && memcmp(link->mac, mac, sizeof mac) != 0;
-        int fault = differs ? give_address(link->index, mac) : 0;
+        int fault = differs ? give_address_down_if_busy(link->index, mac) : 0;
         if (fault == 0) continue;
         (void)say(team->core->lines, LOG_WARNING | ABOUT_DATA, "port %u %s: it does not take the address of %s: %s", link->settings.number,
             link->name, team->settings->carry, strerror(-fault));
@@ -148,7 +148,7 @@ static int open_team_port(struct plane *plane, struct link *link) {
         && ((up && !set_interface_up(link->index, false)) || !set_master(link->index, team->device->index)
             || !set_port_enabled(team->family, team->device->index, link->index, false)))
         fault = last_fault();
-    if (fault == 0 && memcmp(port.mac, mac, sizeof mac) != 0) fault = give_address(link->index, mac);
+    if (fault == 0 && memcmp(port.mac, mac, sizeof mac) != 0) fault = give_address_down_if_busy(link->index, mac);
     team->taken[link - team->ports->links] = fault == 0;
     forget_port(team, link->settings.number);
     if (fault != 0) take_out_of_team(team, link->index);
@@ -164,17 +164,13 @@ static void close_team_port(struct plane *plane, const struct link *link) {
     take_out_of_team(team, link->index);
 }
 
-/* Sees whether an interface is still a port of the device, as the kernel tells another master, or none: that may be older than what the daemon
- * did. One that is no more has a line. */
-static bool see_team_port(struct plane *plane, const struct link *link, int master) {
-    struct team_plane *team = plane->team;
+/* Whether an interface is still a port of the device, as the kernel tells another master, or none: that may be older than what the daemon did. */
+static bool is_still_team_port(const struct plane *plane, const struct link *link, int master) {
+    const struct team_plane *team = plane->team;
     struct interface now;
     if (!team->taken[link - team->ports->links] || master == team->device->index || !ask_interface(link->index, NULL, &now))
         return true;
-    if (now.master == team->device->index) return true;
-    (void)say(team->core->lines, LOG_WARNING | ABOUT_DATA, "port %u %s: it was taken out of %s", link->settings.number, link->name,
-        team->settings->carry);
-    return false;
+    return now.master == team->device->index;
 }
 
 /* The ports that a device has of the last daemon are free. */
@@ -220,15 +216,15 @@ static void open_team(struct plane *plane) {
     need(on_exit(release_team, team) == 0, "on_exit");
     team->opened = true;
     if (drop_tap_and_find(team->process, name, &device)) {
-        adopt_device(team, &device, mac);
+        adopt_device_or_stop(team, &device, mac);
     } else {
         need(make_team_device(name, mac, least_mtu(team->settings)) && ask_interface(0, name, &device), name);
-        lock_device(team, device.index); /* another one may have taken it at once */
+        lock_device_or_stop(team, device.index); /* another one may have taken it at once */
         plane->owns_device = plane->is_new = true;
         use_team_device(team->device, device.index);
     }
     need(read_team(team->family, team->device->index, &now), "team");
-    configure_driver(team->family, team->device->index, team->settings, now.mode);
+    configure_driver_or_stop(team->family, team->device->index, team->settings, now.mode);
     start_buckets(team);
 }
 
@@ -241,19 +237,19 @@ static void end_team_plane(struct plane *plane) {
 
 /* Whether the kernel has the team driver, and its mode, which is another module: answers how the program ends. The mode is tried in a network
  * namespace that ends with the program, where that may be made. */
-static int check_team(struct lines *lines, struct plane *plane, const struct options *options) {
+static int unshare_and_check_team(struct lines *lines, struct plane *plane, const struct options *options) {
     struct team_plane *team = plane->team;
     bool is_apart = unshare(CLONE_NEWNET) == 0, has_driver = load_team_driver(&team->family);
     if (!has_driver && errno == EPERM) return tell_lack(lines, options, "plane", "not known without CAP_NET_ADMIN", DONE);
     if (!has_driver) return tell_lack(lines, options, "plane", "this kernel has no team driver", REFUSED);
-    if (!is_apart || try_team_mode(team->family)) return DONE;
+    if (!is_apart || make_device_to_try_mode(team->family)) return DONE;
     return tell_lack(lines, options, "plane", "the team driver of this kernel has no mode loadbalance", REFUSED);
 }
 
 const struct carrying TEAM_DEVICE = {
     .open = open_team, .end = end_team_plane, .lose_device = lose_device, .leave = leave_team, .give_carrier = give_team_carrier,
-    .add = open_team_port, .remove = close_team_port, .see_port = see_team_port, .settle = settle_team, .tick = pass_tick_of_team,
+    .add = open_team_port, .remove = close_team_port, .see_port = is_still_team_port, .settle = settle_team, .tick = pass_tick_of_team,
     .keeps_aggregator = heard_peer_lately, .frames_heard = team_frames_received, .resume = resume_conversations, .go_on = choose_ports,
-    .member_of = bucket_member_of, .end_resuming = release_former_members, .check = check_team, .show = show_carry, .show_member = show_member,
+    .member_of = bucket_member_of, .end_resuming = release_former_members, .check = unshare_and_check_team, .show = show_carry, .show_member = show_member,
     .show_waiting = show_waiting_buckets, .first_count = MOVES, .end_count = WOKEN + 1, .administers = true, .nameless = "",
 };

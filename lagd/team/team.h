@@ -57,8 +57,8 @@ bool set_master(int index, int master);
 bool set_address(int index, const uint8_t *mac);
 bool give_team_carrier(const struct plane *plane, bool on);
 bool set_option(uint16_t family, int index, const char *name, enum option_type type, const void *value, size_t length);
-bool set_port_enabled(uint16_t family, int index, int port, bool enabled);
-bool set_bucket(uint16_t family, int index, uint16_t bucket, int port);
+bool set_port_enabled(uint16_t family, int index, int port_index, bool enabled);
+bool set_bucket(uint16_t family, int index, uint16_t bucket, int port_index);
 bool read_team(uint16_t family, int index, struct team_now *now);
 
 /* team_hash.c */
@@ -67,7 +67,7 @@ size_t make_team_hash(const struct settings *settings, struct sock_filter steps[
 
 /* team.c */
 extern const struct carrying TEAM_DEVICE;
-void give_team_addresses(struct team_plane *team);
+void give_addresses_or_lose_members(struct team_plane *team);
 void take_out_of_team(const struct team_plane *team, int index);
 
 /* buckets.c */

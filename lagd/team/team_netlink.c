@@ -98,12 +98,12 @@ bool set_option(uint16_t family, int index, const char *name, enum option_type t
     return set_option_at(family, index, name, (struct place){0, -1}, type, value, length);
 }
 
-bool set_port_enabled(uint16_t family, int index, int port, bool enabled) {
-    return set_option_at(family, index, "enabled", (struct place){port, -1}, TYPE_FLAG, enabled ? "" : NULL, 0);
+bool set_port_enabled(uint16_t family, int index, int port_index, bool enabled) {
+    return set_option_at(family, index, "enabled", (struct place){port_index, -1}, TYPE_FLAG, enabled ? "" : NULL, 0);
 }
 
-bool set_bucket(uint16_t family, int index, uint16_t bucket, int port) {
-    return set_option_at(family, index, "lb_tx_hash_to_port_mapping", (struct place){0, bucket}, TYPE_U32, &port, sizeof port);
+bool set_bucket(uint16_t family, int index, uint16_t bucket, int port_index) {
+    return set_option_at(family, index, "lb_tx_hash_to_port_mapping", (struct place){0, bucket}, TYPE_U32, &port_index, sizeof port_index);
 }
 
 static bool is_text(const struct nlattr *attribute, const char *text) {

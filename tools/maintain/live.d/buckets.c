@@ -134,7 +134,7 @@ bool read_team(uint16_t family, int index, struct team_now *now) {
 
 /* What the daemon has beside. */
 ANSWERS(uint64_t milliseconds, lagd->carry.time, void)
-NOTHING(give_team_addresses, struct team_plane *team)
+NOTHING(give_addresses_or_lose_members, struct team_plane *team)
 NOTHING(begin_carry_tick, struct carry *carry)
 NOTHING(note_heard, struct carry *carry)
 NOTHING(end_carry_tick, struct carry *carry)

@@ -77,14 +77,14 @@ static void make_ports(void) {
     lagd->settings.config.mac[0] = 2;
     (void)add_port(&lagd->settings, "fuzz0", 5);
     (void)add_port(&lagd->settings, "fuzz1", 5);
-    make_system(&lagd->protocol);
+    make_ports_and_system_or_stop(&lagd->protocol);
     if (!mkdtemp(folder) || socketpair(AF_UNIX, SOCK_DGRAM | SOCK_NONBLOCK, 0, wire) < 0) abort();
     (void)atexit(remove_folder);
     lagd->process.folder = open_folder(folder);
-    open_status(&lagd->process, folder);
+    open_status_or_stop(&lagd->process, folder);
     lagd->process.has_started = true;
-    set_link(&lagd->protocol, &lagd->ports.links[0], true);
-    set_link(&lagd->protocol, &lagd->ports.links[1], true);
+    set_link_send_and_tell(&lagd->protocol, &lagd->ports.links[0], true);
+    set_link_send_and_tell(&lagd->protocol, &lagd->ports.links[1], true);
 }
 
 static void fuzz_file(const uint8_t *octets, size_t length) {
@@ -135,7 +135,7 @@ static void fuzz_caller(const uint8_t *octets, size_t length) {
     (void)send(asker, octets + 1 + first, length - 1 - first, MSG_NOSIGNAL);
     serve_all();
     for (int part = 0; part < 4 && recv(asker, scrap, sizeof scrap, 0) > 0; part++) serve_all();
-    set_link(&lagd->protocol, &lagd->ports.links[1], !lagd->ports.links[1].up); /* whoever watches is told */
+    set_link_send_and_tell(&lagd->protocol, &lagd->ports.links[1], !lagd->ports.links[1].up); /* whoever watches is told */
     close(asker);
     serve_all();
     pass_tick_of_callers(&lagd->process.status, lagd->process.epoll_file);
@@ -155,11 +155,11 @@ static void fuzz_state(const uint8_t *octets, size_t length) {
     (void)fwrite(octets, 1, length, file);
     fclose(file);
     lagd->inherited = (struct inherited){0};
-    recall_state(&lagd->state);
+    recall_state_or_leave_device(&lagd->state);
     (void)unlink(name);
     lagd->process.resuming = has_carried_links(&lagd->inherited);
     resume_data(&lagd->protocol, resume(&lagd->protocol));
-    release_others(&lagd->protocol);
+    set_links_up_and_end_resuming(&lagd->protocol);
 }
 
 /* The kernel gets no question. */

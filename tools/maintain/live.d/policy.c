@@ -223,7 +223,7 @@ void notify_bundle(const struct bundle *bundle, const char *what) {
     CHECK(bundle->state == BUNDLE_DOWN || any_distributes(&end_of(bundle)->lagd));
 }
 
-NOTHING(keep_port, struct state *state, uint16_t number, uint16_t port)
+NOTHING(write_port_of_conversation, struct state *state, uint16_t number, uint16_t port)
 /* the library, */
 ANSWERS(bool carries, link->view.port_status == NIW_PORT_STATUS_DISTRIBUTING, const struct protocol *protocol, const struct link *link)
 void read_views(struct core *core, struct ports *ports) {
@@ -277,7 +277,7 @@ ANSWERS(uint32_t sum_speeds, 1000, const struct carry *carry, const struct membe
 NOTHING(set_speed, struct device *device, uint32_t megabits)
 /* The device is up here, and no port comes or goes. */
 ANSWERS(uint16_t count_links, PORTS, const struct ports *ports)
-NOTHING(tell_watchers_of, struct core *core, const struct control *control, const struct link *link)
+NOTHING(write_report_and_tell_watchers, struct core *core, const struct control *control, const struct link *link)
 /* The plane: frames come here alone, and members have one queue. */
 static const struct carrying FRAMES = {.settle = settle_frames, .tick = pass_tick_of_frames, .keeps_aggregator = heard_peer_lately,
     .frames_heard = frames_handed_up, .tell_host = tell_speed_and_carrier, .go_on = settle_carry,

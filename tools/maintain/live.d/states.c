@@ -69,8 +69,8 @@ static void make_daemon(void) {
     lagd->process.folder = open_folder(folder);
     lagd->process.lines.output = open("/dev/null", O_WRONLY);
     broken = open("/proc/self/mem", O_RDONLY);
-    recall_state(&lagd->state);
-    make_system(&lagd->protocol);
+    recall_state_or_leave_device(&lagd->state);
+    make_ports_and_system_or_stop(&lagd->protocol);
     struct link *link = &lagd->ports.links[0];
     link->index = INDEX;
     link->lacpdu_at = boottime();
@@ -91,7 +91,7 @@ static void check_read(const char *text, size_t length, bool fails) {
     const char *end = strstr(text, "\nend") + 4, *moved = strstr(end, "on ");
     bool whole = length >= (size_t)(end - text) && !fails, moves = whole && moved && length > (size_t)(strchr(moved, '\n') - text);
     lagd->inherited = nothing;
-    recall_state(&lagd->state);
+    recall_state_or_leave_device(&lagd->state);
     if (!whole) CHECK(memcmp(&lagd->inherited, &nothing, sizeof nothing) == 0);
     if (!whole) return;
     CHECK(lagd->inherited.port_count == 2 && lagd->inherited.link_count == 1 && lagd->inherited.links[0].carried);
@@ -120,7 +120,7 @@ static void check_state(const char *name) {
 static void check_end(void) {
     uint64_t began = milliseconds();
     forks = false;
-    end_state(&lagd->state);
+    remove_state(&lagd->state);
     CHECK(milliseconds() - began < 5000 && faccessat(lagd->process.folder, "states.state", F_OK, 0) == 0);
     (void)unlinkat(lagd->process.folder, "states.state", 0);
 }
@@ -131,7 +131,7 @@ int main(void) {
     make_daemon();
     lagd->process.has_started = true;
     CHECK(save_state(&lagd->state, true));
-    keep_port(&lagd->state, CONVERSATION, 1);
+    write_port_of_conversation(&lagd->state, CONVERSATION, 1);
     snprintf(name, sizeof name, "%lu.states.state", network_namespace());
     check_state(name);
     check_state("states.state");
