@@ -5,7 +5,7 @@
 
 /* Takes the address of the first interface for the system. Where that is not possible, or it is that of the wanted partner, the
  * program ends. */
-void read_own_address(struct settings *settings) {
+void read_auto_system_mac_or_stop(struct settings *settings) {
     const char *name = settings->ports[0].name;
     static const uint8_t no_address[6];
     char what[NAME_ROOM + 16];

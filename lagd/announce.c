@@ -81,8 +81,8 @@ static bool is_above(const struct announce *own, const struct interface *interfa
 }
 
 /* The kernel told of an interface, which may stand on those that are known. */
-static void read_place(const struct nlmsghdr *message, void *into) {
-    struct announce *own = into;
+static void read_place(const struct nlmsghdr *message, void *announce) {
+    struct announce *own = announce;
     struct interface interface = read_interface(message);
     struct announced_place *place = place_of(own, interface.index);
     if (!place && interface.has_mac && own->place_count < 1 + MOST_ABOVE && is_above(own, &interface)) {
@@ -95,8 +95,8 @@ static void read_place(const struct nlmsghdr *message, void *into) {
 }
 
 /* The kernel told whether an interface is one of a router: hosts forget a router whose advertisement says that it is none. */
-static void read_forwarding(const struct nlmsghdr *message, void *into) {
-    struct announce *own = into;
+static void read_forwarding(const struct nlmsghdr *message, void *announce) {
+    struct announce *own = announce;
     const int *index = value_of(attribute_of(message, sizeof(struct netconfmsg), NETCONFA_IFINDEX), sizeof *index);
     const int *forwarding = value_of(attribute_of(message, sizeof(struct netconfmsg), NETCONFA_FORWARDING), sizeof *forwarding);
     struct announced_place *place = index && forwarding ? place_of(own, *index) : NULL;
@@ -106,8 +106,8 @@ static void read_forwarding(const struct nlmsghdr *message, void *into) {
 }
 
 /* The kernel told of an address: it is announced. One of IPv6 that may be another host's is not announced. */
-static void announce_address(const struct nlmsghdr *message, void *into) {
-    struct announce *own = into;
+static void announce_address(const struct nlmsghdr *message, void *announce) {
+    struct announce *own = announce;
     const struct ifaddrmsg *about = mnl_nlmsg_get_payload(message);
     if (mnl_nlmsg_get_payload_len(message) < sizeof *about) return;
     size_t octets = about->ifa_family == AF_INET ? 4 : 16;

@@ -161,7 +161,7 @@ static char *tell_order_or_stop(struct asking *own, const char *path, const char
 }
 
 /* The socket of the one daemon of a folder: one that was killed may have left another there. */
-static const char *find_daemon(struct asking *own) {
+static const char *find_daemon_or_stop(struct asking *own) {
     const char *found = NULL;
     EACH_DAEMON(it, own) {
         CLOSED_FILE int fd = ask_socket(it->path, "");
@@ -176,7 +176,7 @@ static const char *find_daemon(struct asking *own) {
 
 /* Has the one daemon of a folder change its bundle, and waits until that is done; answers how the program ends. */
 static int order_daemon(struct asking *own) {
-    const char *what = own->options->order, *path = find_daemon(own);
+    const char *what = own->options->order, *path = find_daemon_or_stop(own);
     bool waits = true;
     while (waits) {
         char *answer = tell_order_or_stop(own, path, what);
@@ -200,7 +200,7 @@ int ask_daemons(struct lines *lines, struct report *report, const struct options
     for (; own.count < own.found.count; own.count++)
         own.daemons[own.count] = (struct daemon){.path = own.found.sockets[own.count].path, .bundle = own.found.sockets[own.count].bundle};
     if (options->action == ORDER) return order_daemon(&own);
-    if (options->action == SHOW_CONFIG) (void)find_daemon(&own); /* a file has one bundle */
+    if (options->action == SHOW_CONFIG) (void)find_daemon_or_stop(&own); /* a file has one bundle */
     EACH_DAEMON(it, &own) answers += ask_one(&own, it);
     if (answers == 0 && (options->action != METRICS || own.count == 0 || own.denied)) refuse_all(&own);
     if (options->action == WATCH) return print_changes_of_all(&own);

@@ -8,7 +8,7 @@
 
 /* Starts a program in a session of its own, which has no signal blocked or ignored, reads nothing, and prints to standard error. It has the timer
  * slack that the daemon was started with: a child inherits what holds at its start. Answers 0, or -errno. */
-static int start_program(const char *path, char *const *environment) {
+static int spawn_with_usual_timer_slack(const char *path, char *const *environment) {
     char *words[] = {(char *)(uintptr_t)path, NULL};
     posix_spawnattr_t attributes;
     posix_spawn_file_actions_t files;
@@ -41,11 +41,11 @@ static void run_hook(struct lines *lines, const struct bundle *now, enum bundle_
     snprintf(links_text, sizeof links_text, "LAGD_LINKS=%u", now->links);
     snprintf(carrying, sizeof carrying, "LAGD_CARRYING=%u", now->carrying);
     snprintf(aggregator, sizeof aggregator, "LAGD_AGGREGATOR=%u", now->aggregator);
-    int fault = start_program(lines->process->settings->hook, environment);
+    int fault = spawn_with_usual_timer_slack(lines->process->settings->hook, environment);
     if (fault < 0) (void)say(lines, LOG_WARNING | ABOUT_HOOK, "hook %s: %s", lines->process->settings->hook, strerror(-fault));
 }
 
-static void enter_state(struct core *core, struct bundle *own, const struct bundle *now, const struct control *control) {
+static void enter_state_and_tell_all(struct core *core, struct bundle *own, const struct bundle *now, const struct control *control) {
     const struct settings *settings = core->settings;
     enum bundle_state before = own->state;
     *own = *now;
@@ -62,7 +62,7 @@ static void enter_state(struct core *core, struct bundle *own, const struct bund
 }
 
 /* Looks at the ports, and tells what became of the bundle. What changes too often is told later, but not that its device is down. */
-void look_at_bundle(struct protocol *protocol) {
+void choose_and_tell_bundle(struct protocol *protocol) {
     struct bundle now = protocol->bundle;
     if (!protocol->process->has_started || (now.lines_left == 0 && !protocol->halt.down)) return;
     choose_aggregator(protocol, &now);
@@ -75,12 +75,12 @@ void look_at_bundle(struct protocol *protocol) {
     if (now.changed_at == 0) now.changed_at = time(NULL);
     now.reported = true;
     if (now.lines_left > 0) now.lines_left--;
-    enter_state(protocol->core, &protocol->bundle, &now, protocol->control);
+    enter_state_and_tell_all(protocol->core, &protocol->bundle, &now, protocol->control);
 }
 
-void end_bundle(struct core *core, struct bundle *own, const struct control *control) {
+void enter_down_state_and_tell_all(struct core *core, struct bundle *own, const struct control *control) {
     struct bundle now = *own;
     now.state = BUNDLE_DOWN;
     now.aggregator = now.carrying = 0;
-    if (own->state != BUNDLE_DOWN) enter_state(core, own, &now, control);
+    if (own->state != BUNDLE_DOWN) enter_state_and_tell_all(core, own, &now, control);
 }

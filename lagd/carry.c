@@ -35,7 +35,7 @@ bool is_busy(const struct carry *carry, const struct conversation *conversation)
 }
 
 /* Another aggregator is active: nothing has come in it yet. */
-void forget_heard(struct carry *carry) {
+void count_and_forget_heard(struct carry *carry) {
     carry->elsewhere = 0;
     carry->heard_before = ASK(carry->plane->carrying->frames_heard, 0, carry->plane, true);
     carry->heard_at = 0;
@@ -43,7 +43,7 @@ void forget_heard(struct carry *carry) {
 
 /* A frame came in an aggregator that is not the active one. If no aggregator has more than that one, the peer may send there. It is looked
  * at once a tick, however many frames come, and only in a tick in which one does: few frames take long. */
-void suspect_aggregator(struct carry *carry, uint32_t aggregator) {
+void suspect_or_follow_aggregator(struct carry *carry, uint32_t aggregator) {
     if (carry->looked_at == carry->time || carry->active == 0 || aggregator == carry->active) return;
     carry->looked_at = carry->time;
     uint64_t patience = patience_with(carry->protocol, carry->active, (uint16_t)aggregator);
@@ -70,11 +70,11 @@ static void note_active_ports(struct carry *carry, bool emptying) {
 }
 
 /* Chooses by what the ports are now: the aggregator that carries the data is that of the bundle, unless that is down. */
-void choose_ports(struct plane *plane) {
+void choose_ports_and_tell_host(struct plane *plane) {
     struct carry *carry = plane->carry;
     struct bundle now = {0};
     uint16_t before = carry->active;
-    read_views(carry->core, carry->ports);
+    read_views_and_count(carry->core, carry->ports);
     choose_aggregator(carry->protocol, &now);
     carry->active = now.carrying >= carry->settings->min_links ? now.aggregator : 0;
     note_active_ports(carry, false);
@@ -82,17 +82,15 @@ void choose_ports(struct plane *plane) {
     if (before != 0 && carry->active != 0 && before != carry->active) carry->counts[SWITCHES]++;
     if ((before == 0) != (carry->active == 0))
         (void)say(carry->core->lines, LOG_NOTICE | ABOUT_CARRIER, "carry %s: carrier %s", carry->settings->carry, carry->active ? "on" : "off");
-    if (before != carry->active) forget_heard(carry);
+    if (before != carry->active) count_and_forget_heard(carry);
     if (before != carry->active && carry->active != 0) announce_soon(&carry->announce);
     CALL(plane->carrying->tell_host, plane);
 }
 
-/* The last daemon carried in this aggregator, and the peer does, too. The team driver has each bucket where it was: it is told of none before
- * it is known where its conversation goes on. */
+/* The last daemon carried in this aggregator, and the peer does, too. */
 void go_on_in(struct carry *carry, uint16_t aggregator) {
     carry->time = carry->heard_at = milliseconds();
     carry->active = carry->previous = aggregator;
-    CALL(carry->plane->carrying->go_on, carry->plane);
 }
 
 /* Another aggregator is active: what is on a port of the previous one leaves it, behind a marker. Its frames wait until it is free there.
@@ -143,13 +141,13 @@ static void wake_sleeper(struct carry *carry, const struct link *link) {
     carry->counts[WOKEN]++;
 }
 
-void begin_carry_tick(struct carry *carry) {
+void begin_carry_tick_and_announce(struct carry *carry) {
     carry->time = milliseconds();
     pass_tap_tick(carry->device);
     pass_announcing_tick(carry->core->lines, &carry->announce, carry->device);
 }
 
-void end_carry_tick(struct carry *carry) {
+void end_carry_tick_and_wake_ports(struct carry *carry) {
     EACH_LINK_AS_IS(link, carry->ports)
         if (!carry->core->broken) wake_sleeper(carry, link);
     carry->plane->changed = carry->to_balance = true;

@@ -76,7 +76,7 @@ struct carry {
     uint16_t previous; /* the aggregator that was active before nothing or another one was, or 0 */
     uint64_t heard_at; /* the time at which frames came in the active aggregator last, or 0 */
     uint64_t heard_before; /* how many had come in an active one then */
-    uint64_t looked_at; /* of suspect_aggregator */
+    uint64_t looked_at; /* of suspect_or_follow_aggregator */
     uint64_t elsewhere; /* 100 for each tick in which a frame came in another aggregator, since one came in the active one */
     unsigned on_defaults[NIW_MOST_PORTS]; /* ticks for which a port ran on defaults */
     unsigned wakes_after[NIW_MOST_PORTS]; /* how many of them it may */
@@ -88,7 +88,7 @@ struct carry {
 /* probe.c */
 void note_response(struct plane *plane, const struct link *link);
 void recall_answering(struct probe *own, const struct carry *carry, enum answering last);
-void look_at_partner(struct probe *own, const struct carry *carry);
+void reset_if_other_partner(struct probe *own, const struct carry *carry);
 
 /* resume.c */
 void resume_conversations(struct plane *plane, bool goes_on);
@@ -100,13 +100,13 @@ bool ask_ports(struct core *core, uint16_t aggregator, uint16_t *ports) MUST_USE
 bool is_held(const struct niw_assignment *state);
 bool is_busy(const struct carry *carry, const struct conversation *conversation);
 bool heard_peer_lately(const struct plane *plane);
-void forget_heard(struct carry *carry);
+void count_and_forget_heard(struct carry *carry);
 bool leave_previous(struct carry *carry);
-void choose_ports(struct plane *plane);
-void begin_carry_tick(struct carry *carry);
+void choose_ports_and_tell_host(struct plane *plane);
+void begin_carry_tick_and_announce(struct carry *carry);
 void note_heard(struct carry *carry);
-void end_carry_tick(struct carry *carry);
-void suspect_aggregator(struct carry *carry, uint32_t aggregator);
+void end_carry_tick_and_wake_ports(struct carry *carry);
+void suspect_or_follow_aggregator(struct carry *carry, uint32_t aggregator);
 
 /* flight.c */
 bool is_told_distributing(struct core *core, uint16_t port, bool wanted);

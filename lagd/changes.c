@@ -67,7 +67,7 @@ static bool take_up_or_end(struct protocol *protocol, struct link *link, const s
 }
 
 /* The interface of a port does not do what it has to: it is taken up anew. */
-void lose_member(struct protocol *protocol, struct link *link) {
+void lose_link_and_ask_again(struct protocol *protocol, struct link *link) {
     protocol->changes.ask_again = true;
     lose_and_release_link(protocol, link);
 }
@@ -80,7 +80,7 @@ static void follow_link(struct protocol *protocol, struct link *link, const stru
     bool carrier = (interface->flags & carried) == carried, lost = false;
     if (interface->has_mac) follow_address(protocol->plane, link, interface->mac);
     if (interface->discipline[0] && strcmp(link->discipline, interface->discipline) != 0 && !reopen_member(protocol->plane, link)) {
-        lose_member(protocol, link);
+        lose_link_and_ask_again(protocol, link);
         return;
     }
     if (interface->mtu != 0) CALL(protocol->plane->carrying->follow_mtu, protocol->plane, link, interface->mtu);
@@ -102,7 +102,7 @@ static void follow_link(struct protocol *protocol, struct link *link, const stru
     if ((lost && !spared) || !carrier) set_waiting(link, false);
     bool up = carrier && !protocol->halt.silent && choose_aggregator_and_whether_restored(protocol, link);
     if (up && !link->up) fit_queue(protocol->plane, link);
-    if (up) apply_speed(protocol, link);
+    if (up) note_speed_and_set_key(protocol, link);
     if (up) CALL(protocol->plane->carrying->follow_speed, protocol->plane, link);
     set_link_send_and_tell(protocol, link, up);
 }
@@ -120,16 +120,17 @@ static void follow_present(struct protocol *protocol, const struct interface *in
         protocol->changes.tap_named = true;
         protocol->plane->changed = true;
         follow_tap(protocol->device, interface->carrier, interface->discipline);
-        follow_device(protocol, (interface->flags & IFF_UP) != 0);
+        CALL(protocol->plane->carrying->settle_mtu, protocol->device);
+        halt_or_go_on_with_device(protocol, (interface->flags & IFF_UP) != 0);
     }
     EACH_LINK(link, protocol->ports) {
         bool named = is_named(interface, link->name), same = link->socket >= 0 && link->index == interface->index;
-        named = named || (same && take_new_name(protocol, link, interface));
+        named = named || (same && take_and_tell_new_name(protocol, link, interface));
         if (link->socket >= 0 && (same != named || (same && !is_bound(link->socket, link->index)))) lose_interface(protocol, link);
         if (same && link->socket >= 0 && !ASK(protocol->plane->carrying->see_port, true, protocol->plane, link, interface->master)) {
             (void)say(protocol->core->lines, LOG_WARNING | ABOUT_DATA, "port %u %s: it was taken out of %s", link->settings.number, link->name,
                 protocol->settings->carry);
-            tell_taken_out(protocol, link);
+            hold_once_to_tell_peer(protocol, link);
             lose_and_release_link(protocol, link);
         }
         known = known || named;
@@ -137,10 +138,10 @@ static void follow_present(struct protocol *protocol, const struct interface *in
         link->present = true;
         if (link->socket >= 0 || take_up_or_end(protocol, link, interface)) follow_link(protocol, link, interface);
     }
-    if (!known) follow_port(protocol, interface);
+    if (!known) join_followed_port(protocol, interface);
 }
 
-static void follow_absent(struct protocol *protocol, const struct interface *interface) {
+static void lose_and_forget_absent(struct protocol *protocol, const struct interface *interface) {
     if (interface->index == protocol->device->index) CALL(protocol->plane->carrying->lose_device, protocol->plane);
     EACH_LINK(link, protocol->ports) {
         if (link->index != interface->index) continue;
@@ -150,7 +151,7 @@ static void follow_absent(struct protocol *protocol, const struct interface *int
 }
 
 /* Queueing disciplines came or went. Which one an interface has now is asked: of its usual one the kernel does not tell. */
-static void note_discipline(struct changes *own, struct ports *ports, int device, const struct tcmsg *info) {
+static void note_and_ask_discipline(struct changes *own, struct ports *ports, int device, const struct tcmsg *info) {
     bool ours = info->tcm_ifindex == device;
     EACH_LINK(link, ports) {
         if (link->socket < 0 || link->index != info->tcm_ifindex) continue;
@@ -162,7 +163,7 @@ static void note_discipline(struct changes *own, struct ports *ports, int device
 
 /* The answer to the last question has ended. What a whole one did not name is gone. One that ends with an error ends the program at
  * the start; later the kernel is asked again. */
-static void end_answer(struct protocol *protocol, int error) {
+static void end_answer_and_lose_or_stop(struct protocol *protocol, int error) {
     struct changes *own = &protocol->changes;
     bool whole = error == 0 && !own->interrupted;
     if (error < 0 && !protocol->process->has_started) stop(REFUSED, "the kernel does not tell of interfaces", strerror(-error));
@@ -174,7 +175,7 @@ static void end_answer(struct protocol *protocol, int error) {
 }
 
 /* Takes one message. A bridge tells of its ports in messages of its own family, which say nothing of their links. */
-static void parse_change(struct protocol *protocol, const struct nlmsghdr *message) {
+static void follow_change_or_end(struct protocol *protocol, const struct nlmsghdr *message) {
     struct changes *own = &protocol->changes;
     const struct ifinfomsg *info = mnl_nlmsg_get_payload(message);
     const struct tcmsg *discipline = mnl_nlmsg_get_payload(message);
@@ -182,19 +183,19 @@ static void parse_change(struct protocol *protocol, const struct nlmsghdr *messa
     uint16_t type = message->nlmsg_type;
     bool answers = own->asking && message->nlmsg_seq == own->asked && message->nlmsg_pid == mnl_socket_get_portid(own->route);
     if (answers && (message->nlmsg_flags & NLM_F_DUMP_INTR)) own->interrupted = true;
-    if (answers && (type == NLMSG_DONE || type == NLMSG_ERROR)) end_answer(protocol, error_of(message));
+    if (answers && (type == NLMSG_DONE || type == NLMSG_ERROR)) end_answer_and_lose_or_stop(protocol, error_of(message));
     if ((type == RTM_NEWQDISC || type == RTM_DELQDISC) && length >= sizeof *discipline)
-        note_discipline(own, protocol->ports, protocol->device->index, discipline);
+        note_and_ask_discipline(own, protocol->ports, protocol->device->index, discipline);
     if ((type != RTM_NEWLINK && type != RTM_DELLINK) || length < sizeof *info || info->ifi_family != AF_UNSPEC) return;
     struct interface interface = read_interface(message);
     if (type == RTM_NEWLINK && interface.name[0]) follow_present(protocol, &interface);
-    if (type == RTM_DELLINK) follow_absent(protocol, &interface);
+    if (type == RTM_DELLINK) lose_and_forget_absent(protocol, &interface);
 }
 
-void read_messages(struct protocol *protocol, const void *messages, size_t length) {
+void follow_messages_or_end(struct protocol *protocol, const void *messages, size_t length) {
     int left = (int)length;
     for (const struct nlmsghdr *message = messages; is_whole(message, left); message = mnl_nlmsg_next(message, &left))
-        parse_change(protocol, message);
+        follow_change_or_end(protocol, message);
 }
 
 /* Takes what the kernel told, up to its end. Where it had no room for some, it says so, and all is asked again, and queues are seen anew. Any program
@@ -212,18 +213,18 @@ void receive_changes(struct protocol *protocol) {
             EACH_LINK(link, protocol->ports) link->has_new_queues = true;
             own->ask_again = true;
         } else {
-            read_messages(protocol, room, (size_t)got);
+            follow_messages_or_end(protocol, room, (size_t)got);
         }
     }
     EACH_LINK(link, protocol->ports) { /* once for all that was told */
         bool changed = link->has_new_queues;
         link->has_new_queues = false;
-        if (changed && !ASK(protocol->plane->queueing->follow, true, protocol->plane->tap, link)) lose_member(protocol, link);
+        if (changed && !ASK(protocol->plane->queueing->follow, true, protocol->plane->tap, link)) lose_link_and_ask_again(protocol, link);
     }
 }
 
 /* Asks for all interfaces again, where something was missed, or could not be taken up; once a second. */
-void watch_changes(struct changes *own, struct ports *ports) {
+void ask_again_if_due(struct changes *own, struct ports *ports) {
     if (!own->ask_again || own->asking) return;
     EACH_LINK(link, ports) link->present = false;
     own->tap_named = own->ask_again = own->interrupted = false;
@@ -233,7 +234,7 @@ void watch_changes(struct changes *own, struct ports *ports) {
 /* Interfaces are to be taken up as soon as can be. */
 void ask_now(struct changes *own, struct ports *ports) {
     own->ask_again = true;
-    watch_changes(own, ports);
+    ask_again_if_due(own, ports);
 }
 
 void ask_links(struct changes *own, const struct ports *ports) {
@@ -243,25 +244,26 @@ void ask_links(struct changes *own, const struct ports *ports) {
 
 /* Looks at carriers, at each tick and where one is suspected: the kernel counts at once that one came or went, but tells of those that go
  * once a second, over all interfaces. It is asked then, and answers at once. */
-void watch_carriers(struct protocol *protocol, bool tick) {
+void read_and_follow_carriers(struct protocol *protocol, bool tick) {
     struct changes *own = &protocol->changes;
     bool any = false;
     if (!tick && !own->suspected) return;
     own->suspected = false;
     EACH_LINK(link, protocol->ports) {
-        bool changed = link->socket >= 0 && see_new_carrier(link);
+        bool changed = link->socket >= 0 && read_carrier_changes(link);
         if (!changed && link->up && !link->away) note_carrier(protocol->settings, link);
-        if (changed || (link->socket >= 0 && choose_aggregator_and_whether_waited(protocol, link))) any = ask_for(&protocol->changes, link->index, 0) || any;
+        if (changed || (link->socket >= 0 && choose_aggregator_and_whether_waited(protocol, link)))
+            any = ask_for(&protocol->changes, link->index, 0) || any;
     }
     if (any) receive_changes(protocol);
 }
 
-int open_changes(struct protocol *protocol) {
+int open_and_follow_changes_or_stop(struct protocol *protocol) {
     struct changes *own = &protocol->changes;
     own->route = mnl_socket_open2(NETLINK_ROUTE, SOCK_NONBLOCK | SOCK_CLOEXEC);
     if (!own->route || mnl_socket_bind(own->route, RTMGRP_LINK | RTMGRP_TC, MNL_SOCKET_AUTOPID) < 0)
         stop(REFUSED, "no changes of interfaces", strerror(errno));
-    for (ask_now(own, protocol->ports); own->asking || own->ask_again; watch_changes(own, protocol->ports)) {
+    for (ask_now(own, protocol->ports); own->asking || own->ask_again; ask_again_if_due(own, protocol->ports)) {
         if (!own->asking) stop(REFUSED, "the kernel takes no question", strerror(errno));
         if (poll(&(struct pollfd){mnl_socket_get_fd(own->route), POLLIN, 0}, 1, PATIENCE) != 1) stop(REFUSED, "no answer", "interfaces");
         if (own->asked > MOST_ASKED) stop(REFUSED, "no whole answer", "interfaces");

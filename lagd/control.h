@@ -25,7 +25,7 @@ struct control {
 void read_options(struct process *process, int argc, char **argv, struct options *options);
 
 /* possible.c */
-int check_machine(struct lines *lines, struct plane *plane, const struct options *options);
+int choose_plane_and_check(struct lines *lines, struct plane *plane, const struct options *options);
 int tell_lack(struct lines *lines, const struct options *options, const char *key, const char *what, int status);
 int check_programs(struct lines *lines, const struct options *options, const char *key, bool waits);
 

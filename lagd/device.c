@@ -88,7 +88,6 @@ void follow_tap(struct device *own, bool has_now, const char *discipline) {
     own->carrier_told = has_now;
     CALL(own->plane->passing->follow_discipline, own->plane->tap, discipline);
     if (own->carrier && has_now) CALL(own->plane->passing->open_host, own->plane->tap, true);
-    CALL(own->plane->carrying->settle_mtu, own);
 }
 
 /* 100 ms passed. Of a device that is not up the kernel tells no carrier, whoever set one. */
@@ -114,7 +113,7 @@ bool is_tap_up(const struct device *own) {
 }
 
 /* Has the host hand over frames of several segments, and without checksums, where they are passed; each packet tells before its frame. */
-static void choose_segments(const struct device *own) {
+static void set_offload_or_stop(const struct device *own) {
     unsigned long wanted = TUN_F_CSUM | TUN_F_TSO4 | TUN_F_TSO6 | TUN_F_TSO_ECN;
     unsigned long more = own->plane->segments ? TUN_F_USO4 | TUN_F_USO6 : 0;
     if (ioctl(own->tap, TUNSETVNETHDRSZ, &(int){(int)head_octets()}) < 0
@@ -136,17 +135,15 @@ static void go_on_with_tap(struct device *own) {
     if (own->process->inherited->persists) (void)ioctl(own->tap, TUNSETPERSIST, 0);
     own->less_mtu = own->process->inherited->mtu;
     if (ask_tap(own, SIOCGIFMTU, &now)) own->set_mtu = own->most_mtu = (uint32_t)now.ifr_mtu;
-    choose_segments(own);
 }
 
 /* Sets up a device that is new to the daemon, or to its settings. It gets its MAC address before anything else: whoever brings it up has a
  * link-local address of it. */
-static void set_up(struct device *own, const uint8_t *mac) {
+static void set_up_tap_or_stop(struct device *own, const uint8_t *mac) {
     struct ifreq address = {0}, queue = {0};
     address.ifr_hwaddr.sa_family = ARPHRD_ETHER;
     memcpy(address.ifr_hwaddr.sa_data, mac, ETH_ALEN);
     if (!ask_tap(own, SIOCSIFHWADDR, &address)) stop(REFUSED, "no address of the TAP device", strerror(errno));
-    choose_segments(own);
     queue.ifr_qlen = HOST_QUEUE;
     (void)ask_tap(own, SIOCSIFTXQLEN, &queue);
     settle_tap_mtu(own);
@@ -205,13 +202,14 @@ int open_tap(struct device *own, const char *name, const uint8_t *mac) {
     if (goes_on)
         go_on_with_tap(own);
     else
-        set_up(own, mac);
+        set_up_tap_or_stop(own, mac);
+    set_offload_or_stop(own);
     put_stored(&own->process->store, "tap", 0, own->tap);
     return own->tap;
 }
 
 /* The device is one of the team driver. Its carrier stays where the data of the last daemon goes on. */
-void use_team_device(struct device *own, int index) {
+void use_team_device_or_stop(struct device *own, int index) {
     own->asker = socket(AF_UNIX, SOCK_DGRAM | SOCK_CLOEXEC, 0);
     if (own->asker < 0) stop(REFUSED, "no team device", strerror(errno));
     own->index = index;

@@ -23,10 +23,10 @@ struct device {
 /* device.c */
 void follow_tap(struct device *own, bool has_carrier, const char *discipline);
 int open_tap(struct device *own, const char *name, const uint8_t *mac);
-void use_team_device(struct device *own, int index);
+void use_team_device_or_stop(struct device *own, int index);
 bool give_tap_carrier(const struct plane *plane, bool on);
 void settle_tap_mtu(struct device *own);
-void set_carrier(struct device *own, bool on);
+void set_carrier(struct device *own, bool on); /* off: with fast, no frame of the host is taken, either */
 bool has_carrier(const struct device *own);
 void set_speed(struct device *own, uint32_t megabits);
 void limit_mtu(struct device *own, uint32_t most);

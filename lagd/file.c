@@ -24,20 +24,20 @@ struct reading {
 };
 
 /* In the line that was read last. */
-static void note_fault(struct reading *reading, const char *expected, const char *found) {
+static void count_and_tell_fault(struct reading *reading, const char *expected, const char *found) {
     reading->faults++;
     complain(&reading->process->lines, "%s:%u: expected %s: %s", reading->path, reading->line, expected, found);
 }
 
-/* Takes the head of a section: `line` begins with a bracket. */
-static void parse_section(struct reading *reading, const char *line) {
+/* Takes the head of a section: `line` begins with a bracket. Answers what was expected, or NULL. */
+static const char *parse_section(struct reading *reading, const char *line) {
     const char *end = strrchr(line, ']'), *fault = "[Bundle] or [Port INTERFACE]";
     bool is_bundle = strcmp(line, "[Bundle]") == 0, is_port = end && !end[1] && strncmp(line, "[Port ", 6) == 0;
     if (is_bundle) fault = reading->has_bundle ? "one section [Bundle]" : NULL;
     if (is_port) fault = add_port(reading->settings, line + 6, (size_t)(end - line) - 6);
-    if (fault) note_fault(reading, fault, line);
     reading->section = fault ? WRONG_SECTION : is_port ? PORT_SECTION : BUNDLE_SECTION;
     reading->has_bundle = reading->has_bundle || is_bundle;
+    return fault;
 }
 
 /* What is wrong with a line, before its key and value are looked at, or NULL. The library would cut a line that is too long, take one
@@ -51,7 +51,7 @@ static const char *fault_of(const char *line, size_t length) {
 }
 
 /* Hands the library the next line; an empty one in place of the head of a section, and of one that is wrong. */
-static char *next_line(char *into, int room, void *given) {
+static char *take_line_or_tell_fault(char *into, int room, void *given) {
     struct reading *reading = given;
     char *line = NULL;
     size_t size = 0;
@@ -61,8 +61,8 @@ static char *next_line(char *into, int room, void *given) {
         reading->line++;
         while (got > 0 && (line[got - 1] == '\n' || line[got - 1] == '\r' || line[got - 1] == ' ')) line[--got] = 0;
         fault = fault_of(line, (size_t)got);
-        if (fault) note_fault(reading, fault, line);
-        if (!fault && line[0] == '[') parse_section(reading, line);
+        if (!fault && line[0] == '[') fault = parse_section(reading, line);
+        if (fault) count_and_tell_fault(reading, fault, line);
         snprintf(into, (size_t)room, "%s\n", fault || line[0] == '[' ? "" : line);
     }
     free(line);
@@ -84,7 +84,7 @@ static int parse_pair(void *given, const char *section UNUSED, const char *name,
     if (expected) {
         char found[2 * LONGEST_FILE_LINE];
         snprintf(found, sizeof found, "%s=%s", name, value);
-        note_fault(reading, expected, found);
+        count_and_tell_fault(reading, expected, found);
     }
     return expected == NULL;
 }
@@ -127,6 +127,6 @@ bool read_bundle_file(struct process *process, const char *path, struct settings
     if (!file) return false;
     ini_allow_multiline = false;
     ini_allow_inline_comments = false;
-    (void)ini_parse_stream(next_line, &reading, parse_pair, &reading);
+    (void)ini_parse_stream(take_line_or_tell_fault, &reading, parse_pair, &reading);
     return reading.faults == 0 && check_whole_bundle(&process->lines, path, wanted);
 }

@@ -36,7 +36,7 @@ const char *fault_of_owner(int opened) {
 
 /* Opens the folder, and makes it where it is missing; or answers -1, and why not, which errno tells where `fault` is NULL. One of another user,
  * one that others may write, and a symbolic link to one are refused: whoever has it could put a link or a socket of his own in it. */
-int try_folder(const char *folder, const char **fault) {
+int open_or_make_folder(const char *folder, const char **fault) {
     const int flags = O_RDONLY | O_DIRECTORY | O_NOFOLLOW | O_CLOEXEC;
     CLOSED_FILE int opened = open(folder, flags); /* one that is there needs nothing of its disk */
     bool made = opened < 0 && errno == ENOENT && mkdir(folder, 0755) == 0;
@@ -49,9 +49,9 @@ int try_folder(const char *folder, const char **fault) {
 }
 
 /* Opens the folder, without which there is no daemon. */
-int open_folder(const char *folder) {
+int make_status_folder_or_stop(const char *folder) {
     const char *fault;
-    int opened = try_folder(folder, &fault);
+    int opened = open_or_make_folder(folder, &fault);
     if (opened < 0 && fault) stop(REFUSED, fault, folder);
     if (opened < 0) stop(REFUSED, folder, strerror(errno));
     return opened;

@@ -39,7 +39,7 @@ static void note_stranger(struct link *link, const struct system_id *system, con
 }
 
 /* An LACPDU of this system was taken. */
-void note_actor(const struct settings *settings, struct link *link, const struct system_id *actor, const uint8_t *frame) {
+void note_lacpdu_and_pin_partner(const struct settings *settings, struct link *link, const struct system_id *actor, const uint8_t *frame) {
     memcpy(link->lacpdu, frame, sizeof link->lacpdu);
     link->lacpdu_at = boottime();
     if (link->heard && !is_same_system(&link->actor, actor)) {
@@ -56,7 +56,7 @@ void note_actor(const struct settings *settings, struct link *link, const struct
 }
 
 /* Hands a frame to the library, and sends the response to a marker, if there were not too many within a second. */
-static void hand_over(struct protocol *protocol, struct link *link, const struct arrival *arrival, const struct system_id *actor) {
+static void give_library_and_answer(struct protocol *protocol, struct link *link, const struct arrival *arrival, const struct system_id *actor) {
     uint8_t response[NIW_FRAME];
     struct niw_received received = niw_receive(&protocol->core->system, link->settings.number, arrival->frame, arrival->length, response,
         sizeof response);
@@ -64,7 +64,7 @@ static void hand_over(struct protocol *protocol, struct link *link, const struct
     if (received.what == NIW_RECEIVED_DISABLED) link->counts[DISABLED_RECEIVED]++;
     if (!is_done(protocol->core, niw_count_received(&link->counters, arrival->frame, arrival->length, received.what), "niw_count_received"))
         return;
-    if (received.what == NIW_RECEIVED_TOOK_LACPDU && actor) note_actor(protocol->settings, link, actor, arrival->frame);
+    if (received.what == NIW_RECEIVED_TOOK_LACPDU && actor) note_lacpdu_and_pin_partner(protocol->settings, link, actor, arrival->frame);
     if (received.what != NIW_RECEIVED_RESPOND) return;
     const struct queueing *queueing = protocol->plane->queueing;
     const unsigned most = protocol->settings->marker_responses * queueing->markers_at_once;
@@ -73,7 +73,7 @@ static void hand_over(struct protocol *protocol, struct link *link, const struct
 }
 
 void accept_response(struct protocol *protocol, struct link *link, const struct arrival *arrival) {
-    hand_over(protocol, link, arrival, NULL);
+    give_library_and_answer(protocol, link, arrival, NULL);
     CALL(protocol->plane->carrying->note_response, protocol->plane, link);
 }
 
@@ -110,7 +110,7 @@ void accept_frame(struct protocol *protocol, struct link *link, const struct arr
     if (is_response)
         protocol->plane->queueing->accept_response(protocol->plane->tap, link, arrival, response.transaction_id);
     else
-        hand_over(protocol, link, arrival, is_lacpdu ? &actor : NULL);
+        give_library_and_answer(protocol, link, arrival, is_lacpdu ? &actor : NULL);
 }
 
 /* What the kernel tells beside a frame; zeros where it does not. */

@@ -11,24 +11,24 @@ static void fall_silent(struct protocol *protocol) {
 }
 
 /* Tells each peer that its port is out of use, and then nothing more. */
-static void tell_peers_of_halt(struct protocol *protocol) {
+static void hold_ports_and_tell_peers(struct protocol *protocol) {
     EACH_LINK(link, protocol->ports) note_peer_to_tell(link);
     apply_holds(protocol->core, protocol->ports, protocol->halt.down);
     send_due(protocol);
-    read_views(protocol->core, protocol->ports);
+    read_views_and_count(protocol->core, protocol->ports);
     protocol->halt.ticks = 0;
     if (end_is_told(protocol->ports)) fall_silent(protocol);
 }
 
 /* The ports go on as new ones, once the kernel told of their interfaces. */
-static void end_halt(struct protocol *protocol) {
+static void end_halt_and_ask_links(struct protocol *protocol) {
     apply_holds(protocol->core, protocol->ports, protocol->halt.down);
     protocol->halt.silent = false;
     ask_links(&protocol->changes, protocol->ports);
 }
 
 /* The kernel told of the device, which is up or down. At the start the ports of the last daemon go on first, so that their peers can be told. */
-void follow_device(struct protocol *protocol, bool up) {
+void halt_or_go_on_with_device(struct protocol *protocol, bool up) {
     struct halt *own = &protocol->halt;
     if (own->down == !up) return;
     own->down = !up;
@@ -37,11 +37,11 @@ void follow_device(struct protocol *protocol, bool up) {
         up ? "up: LACP begins" : "down: LACP ends, and begins again once it is up");
     EACH_LINK(link, protocol->ports) link->changed = true;
     if (up)
-        end_halt(protocol);
+        end_halt_and_ask_links(protocol);
     else
-        tell_peers_of_halt(protocol);
+        hold_ports_and_tell_peers(protocol);
     protocol->plane->changed = true;
-    look_at_bundle(protocol);
+    choose_and_tell_bundle(protocol);
 }
 
 /* The device was opened. Where no port goes on, no peer has to be told. */
@@ -51,12 +51,12 @@ void note_halt_at_start(struct halt *own, bool down, bool resuming) {
 }
 
 /* The ports of the last daemon went on. */
-void halt_if_down(struct protocol *protocol) {
+void halt_or_end_halt(struct protocol *protocol) {
     if (protocol->halt.down)
         (void)say(protocol->core->lines, LOG_NOTICE | ABOUT_CARRIER, "carry %s: the device is down: LACP begins once it is up",
             protocol->settings->carry);
-    if (protocol->halt.down && !protocol->halt.silent) tell_peers_of_halt(protocol);
-    if (!protocol->halt.down && protocol->halt.silent) end_halt(protocol);
+    if (protocol->halt.down && !protocol->halt.silent) hold_ports_and_tell_peers(protocol);
+    if (!protocol->halt.down && protocol->halt.silent) end_halt_and_ask_links(protocol);
 }
 
 void pass_halt_tick(struct protocol *protocol) {

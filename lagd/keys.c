@@ -105,7 +105,7 @@ static bool ask_by(int socket, int index, void *value) {
     return ioctl(socket, SIOCETHTOOL, &request) == 0;
 }
 
-bool ask_driver(int index, void *value) {
+bool call_driver(int index, void *value) {
     CLOSED_FILE int fd = socket(AF_UNIX, SOCK_DGRAM | SOCK_CLOEXEC, 0);
     return fd >= 0 && ask_by(fd, index, value);
 }
@@ -136,7 +136,7 @@ bool write_speed(int socket, int index, uint32_t megabits) {
 }
 
 /* The link of a port comes up, or is up: with key-by-speed it has the key of the speed that it had as it came. */
-void apply_speed(struct protocol *protocol, struct link *link) {
+void note_speed_and_set_key(struct protocol *protocol, struct link *link) {
     bool by_speed = protocol->settings->key_by_speed;
     struct niw_change change = {.priority = link->settings.priority, .aggregatable = link->settings.aggregatable};
     if (by_speed ? link->up : protocol->settings->select != SELECT_BANDWIDTH) return;

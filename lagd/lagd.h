@@ -408,7 +408,7 @@ bool say(struct lines *lines, int level, const char *format, ...) __attribute__(
 size_t escape(char *text, size_t room, const char *from, size_t length, bool lines);
 
 /* address.c */
-void read_own_address(struct settings *settings);
+void read_auto_system_mac_or_stop(struct settings *settings);
 
 /* locks.c */
 int lock_interface(struct store *store, const struct inherited *inherited, int index);
@@ -420,8 +420,8 @@ bool take_up_interface(struct process *process, struct plane *plane, struct link
 void release_interface(struct plane *plane, struct store *store, struct link *link);
 int open_in_sys(int index, const char *what, int flags);
 bool read_text(int fd, char *text, size_t room);
-bool see_new_carrier(struct link *link);
-void send_frame(struct core *core, struct changes *changes, struct link *link, const uint8_t *frame);
+bool read_carrier_changes(struct link *link);
+void send_frame(struct core *core, bool *suspected, struct link *link, const uint8_t *frame);
 
 /* frames.c */
 struct arrival {
@@ -438,7 +438,7 @@ void receive_frames(struct protocol *protocol, uint16_t port);
 void accept_response(struct protocol *protocol, struct link *link, const struct arrival *arrival);
 void forget_partner(const struct settings *settings, struct link *link);
 bool may_be_partner(const struct link *link, const uint8_t *frame, struct system_id *actor);
-void note_actor(const struct settings *settings, struct link *link, const struct system_id *actor, const uint8_t *frame);
+void note_lacpdu_and_pin_partner(const struct settings *settings, struct link *link, const struct system_id *actor, const uint8_t *frame);
 void tell_strangers(struct lines *lines, uint64_t ticks, struct link *link);
 
 /* markers.c */
@@ -465,14 +465,14 @@ void pass_revert_second(struct protocol *protocol);
 void limit_links(struct protocol *protocol, uint16_t most);
 
 /* changes.c */
-int open_changes(struct protocol *protocol);
+int open_and_follow_changes_or_stop(struct protocol *protocol);
 void receive_changes(struct protocol *protocol);
-void read_messages(struct protocol *protocol, const void *messages, size_t length);
-void watch_changes(struct changes *own, struct ports *ports);
-void lose_member(struct protocol *protocol, struct link *link);
+void follow_messages_or_end(struct protocol *protocol, const void *messages, size_t length);
+void ask_again_if_due(struct changes *own, struct ports *ports);
+void lose_link_and_ask_again(struct protocol *protocol, struct link *link);
 void ask_links(struct changes *own, const struct ports *ports);
 void ask_now(struct changes *own, struct ports *ports);
-void watch_carriers(struct protocol *protocol, bool tick);
+void read_and_follow_carriers(struct protocol *protocol, bool tick);
 
 /* keys.c */
 void choose_slots(struct keys *own, struct ports *ports, const struct settings *settings);
@@ -480,10 +480,10 @@ uint16_t make_keys(struct keys *own, const struct ports *ports, uint16_t keys[st
 bool has_aggregator(const struct keys *own, uint16_t given);
 uint16_t free_key(const struct keys *own, const struct ports *ports, uint16_t behind, const struct link *but);
 uint16_t choose_key(struct keys *own, const struct ports *ports, const struct settings *settings, const struct link *link);
-bool ask_driver(int index, void *value);
+bool call_driver(int index, void *value);
 struct speed read_speed(int socket, int index);
 bool write_speed(int socket, int index, uint32_t megabits);
-void apply_speed(struct protocol *protocol, struct link *link);
+void note_speed_and_set_key(struct protocol *protocol, struct link *link);
 bool has_other_speed(const struct settings *settings, const struct link *link);
 const char *speed_text(const struct speed *speed, char room[static 40]);
 
@@ -496,7 +496,7 @@ void apply_holds(struct core *core, const struct ports *ports, bool down);
 void lose_and_release_link(struct protocol *protocol, struct link *link);
 void send_due(struct protocol *protocol);
 void send_due_and_read_views(struct protocol *protocol);
-void send_again(struct core *core, struct changes *changes, struct ports *ports);
+void send_again(struct core *core, bool *suspected, struct ports *ports);
 bool pass_system_tick(struct core *core, struct ports *ports);
 uint64_t seconds_since(uint64_t began);
 uint64_t milliseconds_of(clockid_t clock);
@@ -513,28 +513,28 @@ bool place_ports(const struct process *process, const struct ports *ports, struc
 void keep_left_ports(const struct inherited *inherited, struct ports *ports, struct settings *settings);
 void leave_left_ports(struct protocol *protocol);
 void begin_link(const struct settings *settings, struct link *link, uint16_t port);
-void join_port(struct protocol *protocol, struct link *link, const struct port_settings *settings);
+void join_port_and_ask_now(struct protocol *protocol, struct link *link, const struct port_settings *settings);
 void leave_port(struct protocol *protocol, struct link *link);
-bool begin_hold(struct protocol *protocol, struct link *link);
+bool begin_hold_or_release(struct protocol *protocol, struct link *link);
 void stay_port(struct protocol *protocol, struct link *link);
 void pass_leaving_tick(struct protocol *protocol);
 struct interface;
 bool may_put_in(const struct protocol *protocol, const struct link *link);
 bool note_whether_outside(const struct protocol *protocol, struct link *link, int master);
-void tell_taken_out(struct protocol *protocol, struct link *link);
-void follow_port(struct protocol *protocol, const struct interface *interface);
-bool take_new_name(struct protocol *protocol, struct link *link, const struct interface *interface);
+void hold_once_to_tell_peer(struct protocol *protocol, const struct link *link);
+void join_followed_port(struct protocol *protocol, const struct interface *interface);
+bool take_and_tell_new_name(struct protocol *protocol, struct link *link, const struct interface *interface);
 void answer_order(struct protocol *protocol, char *order, char answer[static ORDER_ROOM]);
 
 /* halt.c */
-void follow_device(struct protocol *protocol, bool up);
+void halt_or_go_on_with_device(struct protocol *protocol, bool up);
 void note_halt_at_start(struct halt *own, bool down, bool resuming);
-void halt_if_down(struct protocol *protocol);
+void halt_or_end_halt(struct protocol *protocol);
 void pass_halt_tick(struct protocol *protocol);
 
 /* ports.c */
-void read_views(struct core *core, struct ports *ports);
-void print_all_changes(struct core *core, const struct protocol *protocol, struct ports *ports);
+void read_views_and_count(struct core *core, struct ports *ports);
+void print_changes_strangers_and_markers(struct core *core, const struct protocol *protocol, struct ports *ports);
 bool print_change(struct core *core, const struct protocol *protocol, struct link *link);
 struct facts facts_of(const struct protocol *protocol, const struct link *link);
 bool carries(const struct protocol *protocol, const struct link *link);
@@ -556,8 +556,8 @@ void choose_aggregator(struct protocol *protocol, struct bundle *now);
 bool is_as_good_as_any(struct core *core, const struct protocol *protocol, uint16_t aggregator);
 
 /* bundle.c */
-void look_at_bundle(struct protocol *protocol);
-void end_bundle(struct core *core, struct bundle *own, const struct control *control);
+void choose_and_tell_bundle(struct protocol *protocol);
+void enter_down_state_and_tell_all(struct core *core, struct bundle *own, const struct control *control);
 
 /* reload.c */
 bool change_port(struct protocol *protocol, struct link *link, const struct settings *wanted);
@@ -569,13 +569,13 @@ const char *boot_id(char room[static BOOT_ROOM]);
 void forget_interface(int folder, const struct link *link);
 
 /* folder.c */
-int try_folder(const char *folder, const char **fault);
-int open_folder(const char *folder);
+int open_or_make_folder(const char *folder, const char **fault);
+int make_status_folder_or_stop(const char *folder);
 FILE *open_in(int folder, const char *name, int flags, const char *mode);
 const char *fault_of_owner(int opened);
 uint64_t namespace_cookie(void);
 
-/* bpf.c */
+/* bpf.c: each int but `index` is a descriptor, or -errno */
 void *make_map(uint32_t size, uint32_t count, int *map);
 int attach_program(int program, int index, bool egress);
 bool exchange_program(int attached, int program, int index);
@@ -601,7 +601,7 @@ int attach_stored(struct store *own, const char *kind, int program, int index, b
 void detach_stored(struct store *own, const char *kind, int index, int attached);
 
 /* possible.c */
-int fault_of_programs(const struct settings *settings);
+int try_to_attach_program(const struct settings *settings);
 
 /* main.c */
 enum {
@@ -620,7 +620,7 @@ bool await_output(int epoll_file, int fd, uint32_t tag);
 void await_no_more(int epoll_file, int fd);
 
 /* options.c */
-const char *read_port(struct words *words, char *text, struct settings *settings, const char **found);
+const char *add_port_by_words(struct words *words, char *text, struct settings *settings, const char **found);
 
 /* status.c */
 #define REFUSAL "refused: " /* begins the answer to who has no place */

@@ -45,13 +45,13 @@ static bool give_kernel(int fd, const uint8_t *frame, bool bypass) {
  * does not matter, and a marker goes by the socket of the data. No capture of this host shows what goes so. Where the driver has no room
  * at once, the frame waits with the data, and those after it go the same way until it left: an LACPDU that came behind a newer one would
  * undo that. */
-static bool give_past_data(struct link *link, const uint8_t *frame) {
+static bool give_past_data(const struct link *link, bool *queued, const uint8_t *frame) {
     int octets = 0;
-    link->queued = link->queued && ioctl(link->socket, SIOCOUTQ, &octets) == 0 && octets > 0;
-    if (link->queued || (is_passable(link->discipline) && !link->has_fifos)) return give_kernel(link->socket, frame, false);
+    *queued = *queued && ioctl(link->socket, SIOCOUTQ, &octets) == 0 && octets > 0;
+    if (*queued || (is_passable(link->discipline) && !link->has_fifos)) return give_kernel(link->socket, frame, false);
     if (give_kernel(link->socket, frame, true)) return true;
-    link->queued = errno == ENOBUFS && give_kernel(link->socket, frame, false);
-    return link->queued;
+    *queued = errno == ENOBUFS && give_kernel(link->socket, frame, false);
+    return *queued;
 }
 
 /* Reads a file of an interface, from its beginning; answers whether there was something. */
@@ -73,7 +73,7 @@ int open_in_sys(int index, const char *what, int flags) {
 }
 
 /* Sees whether the carrier of a link may have changed since this was seen last. */
-bool see_new_carrier(struct link *link) {
+bool read_carrier_changes(struct link *link) {
     char now[sizeof link->carrier_changes];
     if (!read_text(link->carrier_file, now, sizeof now)) return true;
     if (strcmp(now, link->carrier_changes) == 0) return false;
@@ -89,7 +89,7 @@ static void close_files_of_link(struct store *store, struct link *link) {
 }
 
 /* Opens what an interface that is taken up has; answers 0, or -errno. */
-static int open_files_of_link(struct process *process, struct plane *plane, struct link *link, int index) {
+static int open_files_and_add_member(struct process *process, struct plane *plane, struct link *link, int index) {
     link->index = index;
     link->lock = lock_interface(&process->store, process->inherited, index);
     if (link->lock < 0) return link->lock;
@@ -101,7 +101,7 @@ static int open_files_of_link(struct process *process, struct plane *plane, stru
 
 /* Takes up the interface of this number; answers whether it did, and else `trouble` has why not. */
 bool take_up_interface(struct process *process, struct plane *plane, struct link *link, int index) {
-    link->trouble = -open_files_of_link(process, plane, link, index);
+    link->trouble = -open_files_and_add_member(process, plane, link, index);
     bool taken = link->trouble == 0;
     if (taken) put_stored(&process->store, "lock", index, link->lock);
     if (taken) put_stored(&process->store, "lacp", index, link->socket);
@@ -125,7 +125,7 @@ void release_interface(struct plane *plane, struct store *store, struct link *li
 /* Sends a frame, with the address that the interface has now. An LACPDU that the kernel does not take is sent again at each tick,
  * until a newer one is due; so is one for which a second has no room: the library counts ticks, of which two may come at once where one was late. A
  * response is lost, as on a wire. A response tells of what came before its marker, and may pass what goes. */
-void send_frame(struct core *core, struct changes *changes, struct link *link, const uint8_t *frame) {
+void send_frame(struct core *core, bool *suspected, struct link *link, const uint8_t *frame) {
     bool is_lacpdu = frame[SUBTYPE_AT] == SUBTYPE_LACP;
     uint8_t sent[NIW_FRAME];
     if (link->socket < 0) return;
@@ -137,7 +137,7 @@ void send_frame(struct core *core, struct changes *changes, struct link *link, c
         link->tried = true;
     }
     memcpy(sent + ETH_ALEN, link->mac, ETH_ALEN);
-    if (give_past_data(link, sent)) {
+    if (give_past_data(link, &link->queued, sent)) {
         if (is_lacpdu) link->unsent = false;
         if (!is_done(core, niw_count_sent(&link->counters, sent, sizeof sent), "niw_count_sent") || !is_lacpdu) return;
         memmove(link->lacpdus_at, link->lacpdus_at + 1, sizeof link->lacpdus_at - sizeof *link->lacpdus_at);
@@ -145,7 +145,7 @@ void send_frame(struct core *core, struct changes *changes, struct link *link, c
         return;
     }
     link->counts[FAILED_SENT]++;
-    changes->suspected = true;
+    *suspected = true;
     if (errno == ENETDOWN || errno == ENXIO) return; /* of a link that is down the kernel tells, too */
     link->trouble = errno;
     link->trouble_ticks = TROUBLE_TICKS;

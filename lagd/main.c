@@ -36,7 +36,7 @@ void await_no_more(int epoll_file, int fd) {
     (void)epoll_ctl(epoll_file, EPOLL_CTL_DEL, fd, NULL);
 }
 
-static int open_clock(void) {
+static int open_clock_or_stop(void) {
     struct itimerspec every = {{0, 100000000}, {0, 100000000}};
     int fd = timerfd_create(CLOCK_MONOTONIC, TFD_NONBLOCK | TFD_CLOEXEC);
     need(fd >= 0 && timerfd_settime(fd, 0, &every, NULL) == 0, "no clock");
@@ -51,7 +51,7 @@ static bool is_ignored(int signal) {
 
 /* Opens the signals that end the daemon, SIGUSR1 too, SIGHUP, and SIGUSR2. A log that may not grow (SIGXFSZ), a reader that is gone (SIGPIPE)
  * and a hook that ends (SIGCHLD) do not disturb it. */
-static int open_signals(void) {
+static int block_and_open_signals_or_stop(void) {
     /* These would end the program at once, beside those of a fault in it. */
     static const int ends[] = {SIGHUP, SIGINT, SIGQUIT, SIGALRM, SIGVTALRM, SIGPROF, SIGIO, SIGPWR, SIGXCPU, SIGSTKFLT};
     sigset_t taken;
@@ -89,20 +89,20 @@ static void drop_privileges(struct lines *lines, bool administers) {
         (void)say(lines, LOG_WARNING | ABOUT_RIGHTS, "the capabilities stay as they are");
 }
 
-static void tell_changes(struct protocol *protocol) {
-    read_views(protocol->core, protocol->ports);
-    print_all_changes(protocol->core, protocol, protocol->ports);
-    look_at_bundle(protocol);
+static void read_and_tell_ports_and_bundle(struct protocol *protocol) {
+    read_views_and_count(protocol->core, protocol->ports);
+    print_changes_strangers_and_markers(protocol->core, protocol, protocol->ports);
+    choose_and_tell_bundle(protocol);
 }
 
-static void pass_second(struct lagd *lagd) {
+static void pass_second_save_and_notify(struct lagd *lagd) {
     EACH_LINK(link, &lagd->ports) {
         if (link->lines_left < MOST_LINES) link->lines_left++;
     }
     look_for_twins(&lagd->process.lines, &lagd->ports);
     if (lagd->protocol.bundle.lines_left < MOST_LINES) lagd->protocol.bundle.lines_left++;
     pass_revert_second(&lagd->protocol);
-    watch_changes(&lagd->protocol.changes, &lagd->ports);
+    ask_again_if_due(&lagd->protocol.changes, &lagd->ports);
     (void)save_state(&lagd->state, false);
     notify("WATCHDOG=1");
 }
@@ -113,19 +113,19 @@ static void pass_tick(struct lagd *lagd) {
     pass_halt_tick(&lagd->protocol);
     pass_leaving_tick(&lagd->protocol);
     if (!lagd->core.broken) CALL(lagd->plane.carrying->tick, &lagd->plane);
-    if (lagd->protocol.ticks % SECOND == 0) pass_second(lagd);
+    if (lagd->protocol.ticks % SECOND == 0) pass_second_save_and_notify(lagd);
 }
 
 /* Makes up the ticks that passed, and then sends once. */
-static void make_up_ticks(struct lagd *lagd, int clock) {
+static void make_up_ticks_send_and_tell(struct lagd *lagd, int clock_fd) {
     uint64_t passed = 0;
-    if (read(clock, &passed, sizeof passed) != sizeof passed) return;
+    if (read(clock_fd, &passed, sizeof passed) != sizeof passed) return;
     if (passed > MOST_TICKS) passed = MOST_TICKS;
     for (; passed > 0; passed--) pass_tick(lagd);
     send_due(&lagd->protocol);
-    send_again(&lagd->core, &lagd->protocol.changes, &lagd->ports);
+    send_again(&lagd->core, &lagd->protocol.changes.suspected, &lagd->ports);
     pass_tick_of_callers(&lagd->process.status, lagd->process.epoll_file);
-    tell_changes(&lagd->protocol);
+    read_and_tell_ports_and_bundle(&lagd->protocol);
 }
 
 static bool is_ready(const struct epoll_event *events, int count, uint32_t tag) {
@@ -158,7 +158,7 @@ static void serve_all_data(struct tap_plane *tap, const struct epoll_event *even
 }
 
 /* The next daemon is to go on, if it can. */
-static void hand_over_state(struct lagd *lagd) {
+static void keep_device_and_hand_over(struct lagd *lagd) {
     CALL(lagd->plane.carrying->keep_device, &lagd->plane, true);
     lagd->process.has_left = save_state(&lagd->state, true);
     if (!lagd->process.has_left) {
@@ -170,12 +170,12 @@ static void hand_over_state(struct lagd *lagd) {
 }
 
 /* Serves a signal; answers whether it ends the daemon. */
-static bool serve_signal(struct lagd *lagd, int signals, const char *file) {
+static bool serve_signal(struct lagd *lagd, int signals_fd, const char *file) {
     struct signalfd_siginfo signal;
-    if (read(signals, &signal, sizeof signal) != sizeof signal) return true;
+    if (read(signals_fd, &signal, sizeof signal) != sizeof signal) return true;
     switch (signal.ssi_signo) {
     case SIGUSR2: ask_moves(&lagd->carry); return false;
-    case SIGUSR1: hand_over_state(lagd); return !lagd->process.has_left;
+    case SIGUSR1: keep_device_and_hand_over(lagd); return !lagd->process.has_left;
     case SIGHUP:
         if (file) reload(&lagd->protocol, file);
         return !file;
@@ -184,7 +184,7 @@ static bool serve_signal(struct lagd *lagd, int signals, const char *file) {
 }
 
 /* What came in a turn, the clock after the frames that waited. */
-static void serve(struct lagd *lagd, const struct epoll_event *events, int count, int clock) {
+static void serve(struct lagd *lagd, const struct epoll_event *events, int count, int clock_fd) {
     bool tick = is_ready(events, count, CLOCK);
     if (is_ready(events, count, CHANGES)) receive_changes(&lagd->protocol);
     serve_all_frames(&lagd->protocol, events, count);
@@ -192,14 +192,14 @@ static void serve(struct lagd *lagd, const struct epoll_event *events, int count
     for (int i = 0; i < count; i++)
         if (events[i].data.u32 >= CALLERS && events[i].data.u32 < HOST) serve_caller(&lagd->control, events[i].data.u32 - CALLERS);
     if (is_ready(events, count, STATUS)) accept_callers(&lagd->process.status, lagd->process.epoll_file);
-    watch_carriers(&lagd->protocol, tick);
-    if (tick) make_up_ticks(lagd, clock);
+    read_and_follow_carriers(&lagd->protocol, tick);
+    if (tick) make_up_ticks_send_and_tell(lagd, clock_fd);
     settle_carry(&lagd->plane);
 }
 
 /* Waits for events. While many frames come, and none is left, it lets some gather before they are taken: each wake-up costs whoever sends
  * them, too. */
-static int wait_for(struct tap_plane *tap, struct epoll_event *events) {
+static int await_events_and_reset_turn(struct tap_plane *tap, struct epoll_event *events) {
     if (tap->carry->taken >= MANY && !tap->carry->more_waits) (void)nanosleep(&(struct timespec){0, GATHERS}, NULL);
     tap->carry->taken = 0;
     tap->carry->more_waits = false;
@@ -208,16 +208,16 @@ static int wait_for(struct tap_plane *tap, struct epoll_event *events) {
 
 /* Waits, and serves what comes. The first signal that ends it, or a refusal of the library, makes it tell the peers; it ends when they
  * are told, or by a second signal; or at once, where the next daemon goes on. */
-static void run(struct lagd *lagd, int signals, int clock, const char *file) {
+static void run(struct lagd *lagd, int signals_fd, int clock_fd, const char *file) {
     struct epoll_event events[MOST_EVENTS];
     bool ends = false;
     for (unsigned end_ticks = 0; !ends || (end_ticks < END_TICKS && !end_is_told(&lagd->ports));) {
-        int count = wait_for(&lagd->tap, events);
+        int count = await_events_and_reset_turn(&lagd->tap, events);
         bool ends_now = count < 0 && errno != EINTR;
-        serve(lagd, events, count, clock);
+        serve(lagd, events, count, clock_fd);
         if (lagd->core.broken) end_carry(&lagd->plane);
         if (ends && is_ready(events, count, CLOCK)) end_ticks++;
-        if (is_ready(events, count, SIGNALS)) ends_now = serve_signal(lagd, signals, ends ? NULL : file);
+        if (is_ready(events, count, SIGNALS)) ends_now = serve_signal(lagd, signals_fd, ends ? NULL : file);
         if (lagd->process.has_left || (ends && ends_now)) return;
         if (ends || !(ends_now || lagd->core.broken)) continue;
         ends = true;
@@ -238,11 +238,11 @@ static void open_closed_standard_files(void) {
 static int run_daemon(struct lagd *lagd, const struct options *options) {
     lagd->settings = options->settings;
     (void)prctl(PR_SET_TIMERSLACK, TIMER_SLACK);
-    int signals = open_signals();
+    int signals = block_and_open_signals_or_stop();
     lagd->process.epoll_file = epoll_create1(EPOLL_CLOEXEC);
     need(lagd->process.epoll_file >= 0, "epoll");
-    if (lagd->settings.system_auto) read_own_address(&lagd->settings);
-    lagd->process.folder = open_folder(options->folder);
+    if (lagd->settings.system_auto) read_auto_system_mac_or_stop(&lagd->settings);
+    lagd->process.folder = make_status_folder_or_stop(options->folder);
     receive_stored(&lagd->process);
     choose_plane(&lagd->plane, &lagd->settings);
     recall_state_or_leave_device(&lagd->state);
@@ -251,21 +251,21 @@ static int run_daemon(struct lagd *lagd, const struct options *options) {
     if (lagd->process.inherited->others && !lagd->plane.carrying->keeps_members) release_former_members(&lagd->plane);
     CALL(lagd->plane.carrying->open, &lagd->plane);
     note_halt_at_start(&lagd->protocol.halt, lagd->device.index != 0 && !is_tap_up(&lagd->device), lagd->process.resuming);
-    need(await_input(lagd->process.epoll_file, open_changes(&lagd->protocol), CHANGES), "epoll");
+    need(await_input(lagd->process.epoll_file, open_and_follow_changes_or_stop(&lagd->protocol), CHANGES), "epoll");
     open_status_or_stop(&lagd->process, options->folder);
-    int clock = open_clock();
+    int clock = open_clock_or_stop();
     need(await_input(lagd->process.epoll_file, signals, SIGNALS) && await_input(lagd->process.epoll_file, clock, CLOCK), "epoll");
     drop_privileges(&lagd->process.lines, lagd->plane.carrying->administers);
     unsigned resumed = resume(&lagd->protocol);
     lagd->process.has_started = true;
     resume_data(&lagd->protocol, resumed);
     set_links_up_and_end_resuming(&lagd->protocol);
-    halt_if_down(&lagd->protocol);
+    halt_or_end_halt(&lagd->protocol);
     leave_left_ports(&lagd->protocol);
     CALL(lagd->plane.carrying->end_resuming, &lagd->plane);
     drop_unclaimed(&lagd->process.store);
     (void)save_state(&lagd->state, false);
-    tell_changes(&lagd->protocol);
+    read_and_tell_ports_and_bundle(&lagd->protocol);
     settle_carry(&lagd->plane);
     notify_bundle(&lagd->protocol.bundle, READY);
     run(lagd, signals, clock, options->file);
@@ -281,6 +281,6 @@ int main(int argc, char **argv) {
     open_closed_standard_files();
     read_options(&lagd->process, argc, argv, &options);
     if (options.action == RUN_BUNDLE) return run_daemon(lagd, &options);
-    if (options.action == CHECK) return check_machine(&lagd->process.lines, &lagd->plane, &options);
+    if (options.action == CHECK) return choose_plane_and_check(&lagd->process.lines, &lagd->plane, &options);
     return ask_daemons(&lagd->process.lines, lagd->control.report, &options);
 }

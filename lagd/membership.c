@@ -106,7 +106,7 @@ void begin_link(const struct settings *settings, struct link *link, uint16_t por
 }
 
 /* Gives the library what the settings have of a port; answers whether it took that. */
-static bool configure_port(struct protocol *protocol, struct link *link) {
+static bool set_key_mode_and_hold(struct protocol *protocol, struct link *link) {
     struct niw_change change = {.key = choose_key(&protocol->keys, protocol->ports, protocol->settings, link),
         .priority = link->settings.priority, .aggregatable = link->settings.aggregatable};
     uint16_t port = link->settings.number;
@@ -116,20 +116,20 @@ static bool configure_port(struct protocol *protocol, struct link *link) {
         && apply_hold(protocol->core, link, protocol->halt.down);
 }
 
-void join_port(struct protocol *protocol, struct link *link, const struct port_settings *settings) {
+void join_port_and_ask_now(struct protocol *protocol, struct link *link, const struct port_settings *settings) {
     uint16_t port = link->settings.number;
     protocol->settings->ports[port - 1] = *settings;
     if (port > protocol->ports->count) protocol->settings->port_count = protocol->ports->count = port;
     begin_link(protocol->settings, link, port);
     link->puts_in = true;
     CALL(protocol->plane->carrying->forget, protocol->plane, link);
-    if (!configure_port(protocol, link)) return;
+    if (!set_key_mode_and_hold(protocol, link)) return;
     (void)say(protocol->core->lines, LOG_NOTICE | ABOUT_PORT, "port %u %s: it joins the bundle", port, link->name);
     ask_now(&protocol->changes, protocol->ports);
 }
 
 /* The number of a port is free. Its interface is as it was before it was a member. */
-static void end_leaving(struct protocol *protocol, struct link *link) {
+static void release_port_and_number(struct protocol *protocol, struct link *link) {
     uint16_t port = link->settings.number;
     link->used = false; /* no line tells that its interface is missing */
     if (link->socket >= 0) lose_and_release_link(protocol, link);
@@ -137,12 +137,12 @@ static void end_leaving(struct protocol *protocol, struct link *link) {
     protocol->settings->ports[port - 1] = unset_port();
     begin_link(protocol->settings, link, port);
     protocol->plane->changed = true;
-    look_at_bundle(protocol);
+    choose_and_tell_bundle(protocol);
 }
 
 /* A port is to be out of use, or to be used again; answers whether that is done. First its conversations move to others, behind markers, so that
  * nothing of ours is on its way there once the peer takes nothing more. */
-bool begin_hold(struct protocol *protocol, struct link *link) {
+bool begin_hold_or_release(struct protocol *protocol, struct link *link) {
     bool out_of_use = link->held || link->leaving;
     link->leaves_since = milliseconds();
     link->left_at = 0;
@@ -154,7 +154,7 @@ bool begin_hold(struct protocol *protocol, struct link *link) {
 }
 
 /* A port that is emptied is held, once it is empty, or after a while. */
-static void end_emptying(struct protocol *protocol, struct link *link) {
+static void go_on_emptying_or_hold(struct protocol *protocol, struct link *link) {
     if (link->up && milliseconds() - link->leaves_since < MOST_WAIT && !ASK(protocol->plane->carrying->empty, true, protocol->plane, link)) return;
     link->emptying = false;
     link->leaves_since = milliseconds();
@@ -167,11 +167,11 @@ void leave_port(struct protocol *protocol, struct link *link) {
     if (link->leaving) return;
     link->leaving = link->changed = true;
     if (!link->up) {
-        end_leaving(protocol, link);
+        release_port_and_number(protocol, link);
         return;
     }
     (void)say(protocol->core->lines, LOG_NOTICE | ABOUT_PORT, "port %u %s: it leaves the bundle", link->settings.number, link->name);
-    if (begin_hold(protocol, link)) send_due_and_read_views(protocol);
+    if (begin_hold_or_release(protocol, link)) send_due_and_read_views(protocol);
 }
 
 void stay_port(struct protocol *protocol, struct link *link) {
@@ -179,7 +179,7 @@ void stay_port(struct protocol *protocol, struct link *link) {
     link->leaving = false;
     link->changed = true;
     (void)say(protocol->core->lines, LOG_NOTICE | ABOUT_PORT, "port %u %s: it stays in the bundle", link->settings.number, link->name);
-    if (begin_hold(protocol, link)) send_due_and_read_views(protocol);
+    if (begin_hold_or_release(protocol, link)) send_due_and_read_views(protocol);
 }
 
 /* Whether nothing of ours is on a link that is held, and its partner sends nothing more there, as far as it tells. */
@@ -204,8 +204,8 @@ void pass_leaving_tick(struct protocol *protocol) {
     EACH_LINK(link, protocol->ports) {
         if (protocol->core->broken) return;
         if (protocol->settings->follow && link->used && link->followed && link->outside) leave_port(protocol, link);
-        if (link->emptying) end_emptying(protocol, link);
-        if (link->leaving && note_whether_left(protocol->core, link)) end_leaving(protocol, link);
+        if (link->emptying) go_on_emptying_or_hold(protocol, link);
+        if (link->leaving && note_whether_left(protocol->core, link)) release_port_and_number(protocol, link);
     }
 }
 
@@ -230,16 +230,15 @@ bool note_whether_outside(const struct protocol *protocol, struct link *link, in
 }
 
 /* Others took a port out of the device: its peer is told, as far as the interface still sends. */
-void tell_taken_out(struct protocol *protocol, struct link *link) {
+void hold_once_to_tell_peer(struct protocol *protocol, const struct link *link) {
     if (!protocol->settings->follow || !protocol->process->has_started) return;
-    link->puts_in = false;
     if (!is_done(protocol->core, niw_hold(&protocol->core->system, link->settings.number, true), "niw_hold")) return;
     send_due(protocol);
-    if (apply_hold(protocol->core, link, protocol->halt.down)) link->changed = true;
+    (void)!apply_hold(protocol->core, link, protocol->halt.down);
 }
 
 /* A number that no port has, as its place, or NULL. */
-static struct link *free_place(struct ports *ports) {
+static struct link *find_free_place(struct ports *ports) {
     for (struct link *link = ports->links; link < ports->links + ports->slots; link++)
         if (!link->used) return link;
     return NULL;
@@ -247,21 +246,21 @@ static struct link *free_place(struct ports *ports) {
 
 /* The kernel told of an interface that is no port. Where it is in a device whose ports others choose, it becomes one. That may be older than what was
  * done since, as one that leaves is taken out: it is asked. */
-void follow_port(struct protocol *protocol, const struct interface *interface) {
+void join_followed_port(struct protocol *protocol, const struct interface *interface) {
     struct port_settings settings = unset_port();
     struct interface now;
-    struct link *link = free_place(protocol->ports);
+    struct link *link = find_free_place(protocol->ports);
     if (!protocol->settings->follow || interface->master == 0 || interface->master != protocol->device->index || interface->type != ARPHRD_ETHER)
         return;
     if (!link || !ask_interface(interface->index, NULL, &now) || now.master != interface->master) return;
     memcpy(settings.name, interface->name, sizeof interface->name);
-    join_port(protocol, link, &settings);
+    join_port_and_ask_now(protocol, link, &settings);
     link->followed = link->present = true;
     link->puts_in = false; /* others did, and may have taken it out since */
 }
 
 /* The interface of a port that the device alone has was given another name: it is the same port. Answers whether it is. */
-bool take_new_name(struct protocol *protocol, struct link *link, const struct interface *interface) {
+bool take_and_tell_new_name(struct protocol *protocol, struct link *link, const struct interface *interface) {
     char *name = protocol->settings->ports[link->settings.number - 1].name;
     if (!link->followed || link->leaving || interface->master != protocol->device->index || link_named(protocol->ports, interface->name))
         return false;
@@ -272,7 +271,7 @@ bool take_new_name(struct protocol *protocol, struct link *link, const struct in
 }
 
 /* Tries the lock of an interface that is to be a port; answers why it can be none now, or NULL. */
-static const char *try_interface(struct process *process, const struct ports *ports, const char *name) {
+static const char *try_lock_of_interface(struct process *process, const struct ports *ports, const char *name) {
     struct interface interface;
     if (strcmp(name, process->settings->carry) == 0) return "it is the device itself";
     if (!ask_interface(0, name, &interface)) return "there is no such interface";
@@ -289,14 +288,14 @@ static const char *try_interface(struct process *process, const struct ports *po
 static const char *add_or_keep_by_words(struct protocol *protocol, char *text, uint16_t *port, char room[static ORDER_ROOM]) {
     struct settings wanted = {.port_count = 0};
     struct port_settings *settings = &wanted.ports[0];
-    const char *found, *expected = read_port(&protocol->process->words, text, &wanted, &found);
+    const char *found, *expected = add_port_by_words(&protocol->process->words, text, &wanted, &found);
     text[strcspn(text, ":")] = 0;
     if (expected) {
         snprintf(room, ORDER_ROOM, "%.32s%sexpected %s", found == text ? "" : found, found == text ? "" : ": ", expected);
         return room;
     }
-    struct link *known = link_named(protocol->ports, settings->name), *link = known ? known : free_place(protocol->ports);
-    const char *fault = known ? NULL : try_interface(protocol->process, protocol->ports, settings->name);
+    struct link *known = link_named(protocol->ports, settings->name), *link = known ? known : find_free_place(protocol->ports);
+    const char *fault = known ? NULL : try_lock_of_interface(protocol->process, protocol->ports, settings->name);
     if (known && !known->leaving) return "it is a port already";
     if (fault) return fault;
     if (settings->key != AS_BUNDLE && !has_aggregator(&protocol->keys, (uint16_t)settings->key))
@@ -308,7 +307,7 @@ static const char *add_or_keep_by_words(struct protocol *protocol, char *text, u
         protocol->settings->ports[*port - 1] = *settings;
         if (change_port(protocol, known, protocol->settings)) send_due_and_read_views(protocol);
     } else {
-        join_port(protocol, link, settings);
+        join_port_and_ask_now(protocol, link, settings);
     }
     return NULL;
 }
@@ -319,7 +318,7 @@ static bool hold_by_word(struct protocol *protocol, struct link *link, bool hold
         (void)say(protocol->core->lines, LOG_NOTICE | ABOUT_PORT, "port %u %s: it is %s", link->settings.number, link->name,
             hold ? "held" : "used again");
         link->held = hold;
-        if (!begin_hold(protocol, link)) return true;
+        if (!begin_hold_or_release(protocol, link)) return true;
         protocol->settings->ports[link->settings.number - 1].hold = hold;
         send_due_and_read_views(protocol);
     }

@@ -72,7 +72,7 @@ bool ask_netlink(int bus, const union message *question, message_reader read_one
     return fault == 0;
 }
 
-bool ask_kernel(const union message *wanted) {
+bool call_rtnetlink(const union message *wanted) {
     return ask_netlink(NETLINK_ROUTE, wanted, NULL, NULL);
 }
 

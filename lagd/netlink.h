@@ -29,7 +29,7 @@ typedef void (*message_reader)(const struct nlmsghdr *message, void *into);
 union message message_of(uint16_t type, unsigned flags, const void *about, size_t length);
 union message message_of_interface(uint16_t type, unsigned flags, int index);
 bool ask_netlink(int bus, const union message *question, message_reader read_one, void *into);
-bool ask_kernel(const union message *wanted);
+bool call_rtnetlink(const union message *wanted);
 bool ask_list(int bus, const union message *question, message_reader read_one, void *into, size_t size);
 bool is_whole(const struct nlmsghdr *message, int left);
 int error_of(const struct nlmsghdr *message);

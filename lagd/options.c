@@ -96,7 +96,7 @@ static void stop_at_fault(const char *expected, const char *name, const char *va
 }
 
 /* Gives a key of the bundle a value; `shown` is what a refusal calls it. A command line is one line. */
-static void set_bundle_key(struct words *words, struct options *options, const char *key, const char *shown, const char *text) {
+static void set_bundle_key_or_stop(struct words *words, struct options *options, const char *key, const char *shown, const char *text) {
     stop_at_fault(set_bundle(words, &options->settings, key, text, 1), shown, text);
 }
 
@@ -110,7 +110,7 @@ static void print_version(void) {
 }
 
 /* One option. --help and --version end the program. */
-static void act_on_letter(struct words *words, struct options *options, int letter, const char *last) {
+static void act_on_letter_or_end(struct words *words, struct options *options, int letter, const char *last) {
     const struct option_text *row = OPTIONS;
     const struct key *key = BUNDLE_KEYS;
     while (row->name && row->letter != letter) row++;
@@ -132,7 +132,7 @@ static void act_on_letter(struct words *words, struct options *options, int lett
     case 'h': print_help(words); exit(fflush(stdout) ? REFUSED : DONE);
     case 'V': print_version(); exit(fflush(stdout) ? REFUSED : DONE);
     case '?': case ':': stop(WRONG_WORD, "not an option, or its word is missing", optopt ? (const char[]){'-', (char)optopt, 0} : last);
-    default: if (key->name) set_bundle_key(words, options, key->name, key->name, optarg ? optarg : "yes");
+    default: if (key->name) set_bundle_key_or_stop(words, options, key->name, key->name, optarg ? optarg : "yes");
     }
 }
 
@@ -148,7 +148,7 @@ static const char *read_port_word(struct words *words, const char *word, struct 
 }
 
 /* INTERFACE[:WORD,..], for the next port of settings, which ends the name there; answers NULL, or what was expected in the place of `found`. */
-const char *read_port(struct words *words, char *text, struct settings *settings, const char **found) {
+const char *add_port_by_words(struct words *words, char *text, struct settings *settings, const char **found) {
     size_t length = strcspn(text, ":");
     char *rest = text[length] ? text + length + 1 : NULL;
     const char *expected = add_port(settings, text, length);
@@ -159,13 +159,13 @@ const char *read_port(struct words *words, char *text, struct settings *settings
 }
 
 /* KEY PRIORITY,MAC INTERFACE[:WORD,..].. */
-static void read_operands(struct words *words, struct options *options, int count, char **given) {
+static void read_operands_or_stop(struct words *words, struct options *options, int count, char **given) {
     struct settings *settings = &options->settings;
     if (count < 3) stop(WRONG_WORD, "usage", "lagd [OPTION..] KEY PRIORITY,MAC INTERFACE.., or lagd --config FILE; lagd --help tells more");
-    set_bundle_key(words, options, "key", "KEY", given[0]);
-    set_bundle_key(words, options, "system", "system", given[1]);
+    set_bundle_key_or_stop(words, options, "key", "KEY", given[0]);
+    set_bundle_key_or_stop(words, options, "system", "system", given[1]);
     for (int i = 2; i < count; i++) {
-        const char *found, *expected = read_port(words, given[i], settings, &found);
+        const char *found, *expected = add_port_by_words(words, given[i], settings, &found);
         stop_at_fault(expected, NULL, found);
     }
     struct lack lack = lack_of(settings);
@@ -173,7 +173,7 @@ static void read_operands(struct words *words, struct options *options, int coun
     strcpy(settings->name, settings->ports[0].name);
 }
 
-static void read_letters(struct words *words, struct options *options, int argc, char **argv) {
+static void read_letters_or_end(struct words *words, struct options *options, int argc, char **argv) {
     struct option names[OPTION_ROOM + 1] = {{NULL, 0, NULL, 0}};
     char letters[2 * OPTION_ROOM + 1] = "";
     size_t count = 0, length = 0;
@@ -185,19 +185,19 @@ static void read_letters(struct words *words, struct options *options, int argc,
         if (names[i].has_arg) letters[length++] = ':';
     }
     opterr = 0;
-    for (int letter; (letter = getopt_long(argc, argv, letters, names, NULL)) >= 0;) act_on_letter(words, options, letter, argv[optind - 1]);
+    for (int letter; (letter = getopt_long(argc, argv, letters, names, NULL)) >= 0;) act_on_letter_or_end(words, options, letter, argv[optind - 1]);
 }
 
 /* Reads the command line, and the file that it names. */
 void read_options(struct process *process, int argc, char **argv, struct options *options) {
     static const unsigned no_lines[MOST_BUNDLE_KEYS];
     *options = (struct options){.folder = "/run/lagd", .settings = usual_settings()};
-    read_letters(&process->words, options, argc, argv);
+    read_letters_or_end(&process->words, options, argc, argv);
     bool has_keys = memcmp(options->settings.lines, no_lines, sizeof no_lines) != 0;
     if (options->json && options->action != SHOW && options->action != WATCH)
         stop(WRONG_WORD, "usage", "lagd --status --json, or lagd --watch --json");
     if ((options->action != RUN_BUNDLE || options->file) && (optind < argc || has_keys))
         stop(WRONG_WORD, "usage", "a file has all of its bundle, and a question has none of it; lagd --help tells more");
     if (options->file && !read_bundle_file(process, options->file, &options->settings)) exit(WRONG_WORD);
-    if (options->action == RUN_BUNDLE && !options->file) read_operands(&process->words, options, argc - optind, argv + optind);
+    if (options->action == RUN_BUNDLE && !options->file) read_operands_or_stop(&process->words, options, argc - optind, argv + optind);
 }

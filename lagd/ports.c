@@ -39,25 +39,21 @@ struct facts facts_of(const struct protocol *protocol, const struct link *link) 
 }
 
 /* Counts what became of a port. Its link that comes up has it EXPIRED, as one does of which no LACPDU came in time. */
-static void count_change(const struct settings *settings, struct link *link, const struct niw_view *now) {
-    const struct niw_view *before = &link->view;
-    if (now->receive_state == NIW_RECEIVE_EXPIRED && before->receive_state == NIW_RECEIVE_CURRENT) link->counts[EXPIRED]++;
-    if (now->receive_state == NIW_RECEIVE_DEFAULTED && before->receive_state != NIW_RECEIVE_DEFAULTED) {
-        link->counts[DEFAULTED]++;
-        forget_partner(settings, link);
-    }
-    if (now->mux_state == NIW_MUX_COLLECTING_DISTRIBUTING && before->mux_state != NIW_MUX_COLLECTING_DISTRIBUTING)
-        link->counts[DISTRIBUTED]++;
+static void count_change(uint64_t counts[static COUNTS], const struct niw_view *before, const struct niw_view *now) {
+    if (now->receive_state == NIW_RECEIVE_EXPIRED && before->receive_state == NIW_RECEIVE_CURRENT) counts[EXPIRED]++;
+    if (now->receive_state == NIW_RECEIVE_DEFAULTED && before->receive_state != NIW_RECEIVE_DEFAULTED) counts[DEFAULTED]++;
+    if (now->mux_state == NIW_MUX_COLLECTING_DISTRIBUTING && before->mux_state != NIW_MUX_COLLECTING_DISTRIBUTING) counts[DISTRIBUTED]++;
 }
 
-void read_views(struct core *core, struct ports *ports) {
+void read_views_and_count(struct core *core, struct ports *ports) {
     struct niw_view views[NIW_MOST_PORTS];
     uint64_t changed;
     if (!is_told(core, niw_views(&core->system, views, NIW_MOST_PORTS), "niw_views", &changed)) return;
     EACH_LINK(link, ports) {
         const struct niw_view *now = &views[link->settings.number - 1];
         if (!(changed >> (link->settings.number - 1) & 1)) continue;
-        count_change(core->settings, link, now);
+        count_change(link->counts, &link->view, now);
+        if (now->receive_state == NIW_RECEIVE_DEFAULTED && link->view.receive_state != NIW_RECEIVE_DEFAULTED) forget_partner(core->settings, link);
         link->view = *now;
         link->changed = true;
     }
@@ -101,7 +97,7 @@ bool print_change(struct core *core, const struct protocol *protocol, struct lin
 }
 
 /* Prints the ports that changed. What is printed too often is printed later. */
-void print_all_changes(struct core *core, const struct protocol *protocol, struct ports *ports) {
+void print_changes_strangers_and_markers(struct core *core, const struct protocol *protocol, struct ports *ports) {
     EACH_LINK(link, ports) {
         if (link->changed && link->lines_left > 0 && print_change(core, protocol, link)) link->lines_left--;
         tell_strangers(core->lines, protocol->ticks, link);

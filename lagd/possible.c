@@ -15,7 +15,7 @@ int tell_lack(struct lines *lines, const struct options *options, const char *ke
 }
 
 /* Whether the kernel has a program run at an interface, as Linux does from 6.6 on: then it misses the interface alone. 0, or -errno. */
-int fault_of_programs(const struct settings *settings) {
+int try_to_attach_program(const struct settings *settings) {
     CLOSED_FILE int program = load_program(settings, "dropper", NULL, NULL);
     if (program < 0) return program;
     int attached = attach_program(program, NO_INDEX, false);
@@ -24,7 +24,7 @@ int fault_of_programs(const struct settings *settings) {
 
 /* Whether the kernel has what a key wants: programs of an interface, and for `fast` to wait for them. Answers how the program ends. */
 int check_programs(struct lines *lines, const struct options *options, const char *key, bool waits) {
-    int fault = fault_of_programs(&options->settings);
+    int fault = try_to_attach_program(&options->settings);
     if (fault == -EPERM) return tell_lack(lines, options, key, "not known without CAP_BPF and CAP_NET_ADMIN", DONE);
     if (fault != 0) return tell_lack(lines, options, key, "the kernel has no program of an interface, which Linux has from 6.6 on", REFUSED);
     if (!waits || syscall(SYS_membarrier, MEMBARRIER_CMD_GLOBAL, 0, 0) == 0) return DONE;
@@ -32,7 +32,7 @@ int check_programs(struct lines *lines, const struct options *options, const cha
 }
 
 /* Says what this machine lacks for a file that is right: answers how the program ends. */
-int check_machine(struct lines *lines, struct plane *plane, const struct options *options) {
+int choose_plane_and_check(struct lines *lines, struct plane *plane, const struct options *options) {
     choose_plane(plane, &options->settings);
     int status = ASK(plane->carrying->check, DONE, lines, plane, options);
     if (status == DONE) status = ASK(plane->passing->check, DONE, lines, plane, options);

@@ -9,12 +9,12 @@
 /* The last daemon found that out of this partner. */
 void recall_answering(struct probe *own, const struct carry *carry, enum answering last) {
     if (carry->active == 0 || (last != ANSWERS && last != MUTE)) return;
-    look_at_partner(own, carry);
+    reset_if_other_partner(own, carry);
     own->peer = own->reported = last;
 }
 
 /* Another partner may answer markers where the last one did not. */
-void look_at_partner(struct probe *own, const struct carry *carry) {
+void reset_if_other_partner(struct probe *own, const struct carry *carry) {
     if (carry->active == 0) return;
     const struct niw_view *view = &carry->ports->links[carry->active_ports[0] - 1].view;
     struct system_id partner = partner_of(view);

@@ -33,7 +33,7 @@ bool change_port(struct protocol *protocol, struct link *link, const struct sett
     struct niw_port *now = &link->settings, next = port_of(wanted, port);
     struct niw_change change = {.priority = next.priority, .aggregatable = next.aggregatable};
     bool hold = wants_hold(wanted, port);
-    read_views(protocol->core, protocol->ports);
+    read_views_and_count(protocol->core, protocol->ports);
     if (has_aggregator(&protocol->keys, next.key)) link->key = next.key;
     change.key = choose_key(&protocol->keys, protocol->ports, protocol->settings, link);
     struct niw_truth answer = niw_configure(&protocol->core->system, port, &change);
@@ -52,7 +52,7 @@ bool change_port(struct protocol *protocol, struct link *link, const struct sett
     }
     if (link->held == hold) return changed;
     link->held = hold;
-    return begin_hold(protocol, link) || changed;
+    return begin_hold_or_release(protocol, link) || changed;
 }
 
 /* Who may be the partner changes for each link at once. One that is no longer pinned is so by who speaks next. */
@@ -75,7 +75,7 @@ static bool join_leave_or_change_port(struct protocol *protocol, uint16_t port, 
     bool was_leaving = link->leaving, is_wanted = wanted->ports[port - 1].name[0] != 0;
     if (!link->used && (!is_wanted || !has_aggregator(&protocol->keys, port_of(wanted, port).key))) return false;
     if (!link->used) {
-        join_port(protocol, link, &wanted->ports[port - 1]);
+        join_port_and_ask_now(protocol, link, &wanted->ports[port - 1]);
         return true;
     }
     if (!is_wanted && wanted->follow && link->socket >= 0) {

@@ -42,9 +42,11 @@ static bool is_away_too_long(uint16_t delay_down, const struct link *link) {
     return milliseconds() - link->carried_at >= delay_down;
 }
 
-/* Answers whether a link waits no longer, as choose_aggregator_and_whether_over does: the kernel is asked then whether its carrier is still there, or away. */
+/* Answers whether a link waits no longer, as choose_aggregator_and_whether_over does: the kernel is asked then whether its carrier is still there, or
+ * away. */
 bool choose_aggregator_and_whether_waited(struct protocol *protocol, const struct link *link) {
-    return (link->waits && choose_aggregator_and_whether_over(protocol, link)) || (link->away && is_away_too_long(protocol->settings->delay_down, link));
+    return (link->waits && choose_aggregator_and_whether_over(protocol, link))
+        || (link->away && is_away_too_long(protocol->settings->delay_down, link));
 }
 
 /* The kernel told of a link whether its carrier is there, and whether it was lost since: answers whether the link stays up all the same. What is

@@ -46,7 +46,7 @@ static struct niw_saved saved_of(const struct inherited *inherited, const struct
 static void recall_partner(const struct process *process, struct link *link) {
     const struct inherited_link *was = inherited_of(process->inherited, link);
     struct system_id actor;
-    if (may_be_partner(link, was->lacpdu, &actor)) note_actor(process->settings, link, &actor, was->lacpdu);
+    if (may_be_partner(link, was->lacpdu, &actor)) note_lacpdu_and_pin_partner(process->settings, link, &actor, was->lacpdu);
     link->lacpdu_at = was->heard - process->inherited->ahead;
     link->lacpdus_at[MOST_LACPDUS - 1] = was->spoken - process->inherited->ahead;
 }
@@ -111,11 +111,13 @@ static uint16_t port_carrying_on(struct core *core, const struct carry *carry, i
     return 0;
 }
 
-/* After the ports: data goes on where it was, as far as some ports do. What the kernel passes on knows best where it goes. */
+/* After the ports: data goes on where it was, as far as some ports do. What the kernel passes on knows best where it goes. The team driver has each
+ * bucket where it was: it is told of none before it is known where its conversation goes on. */
 void resume_conversations(struct plane *plane, bool goes_on) {
     struct carry *carry = plane->carry;
     if (goes_on) {
         go_on_in(carry, carry->process->inherited->bundle.aggregator);
+        CALL(plane->carrying->go_on, plane);
         recall_answering(&carry->probe, carry, (enum answering)carry->process->inherited->answering);
     }
     for (uint16_t number = 0; goes_on && number < CONVERSATIONS; number++) {
@@ -129,7 +131,7 @@ void resume_conversations(struct plane *plane, bool goes_on) {
 void resume_data(struct protocol *protocol, unsigned count) {
     const struct inherited *inherited = protocol->process->inherited;
     bool goes_on = count > 0 && inherited->bundle.aggregator <= protocol->aggregator_count;
-    read_views(protocol->core, protocol->ports);
+    read_views_and_count(protocol->core, protocol->ports);
     if (goes_on) { /* which is no change of the bundle */
         protocol->bundle.state = inherited->bundle.state;
         protocol->bundle.changed_at = inherited->bundle.changed_at;

@@ -51,7 +51,7 @@ static bool hold_surplus(struct core *core, struct ports *ports, uint16_t aggreg
         for (const struct link *last; (last = last_beyond(ports, aggregator, most));) {
             if (!is_done(core, niw_hold(&core->system, last->settings.number, true), "niw_hold")) return false;
             marked[last->settings.number - 1] = true;
-            read_views(core, ports);
+            read_views_and_count(core, ports);
         }
     return true;
 }
@@ -60,7 +60,7 @@ static bool hold_surplus(struct core *core, struct ports *ports, uint16_t aggreg
 void limit_links(struct protocol *protocol, uint16_t most) {
     bool marked[NIW_MOST_PORTS] = {false};
     if (most == protocol->settings->config.max_links) return;
-    read_views(protocol->core, protocol->ports);
+    read_views_and_count(protocol->core, protocol->ports);
     if (most != 0 && !hold_surplus(protocol->core, protocol->ports, protocol->aggregator_count, most, marked)) return;
     if (!is_done(protocol->core, niw_set_max_links(&protocol->core->system, most), "niw_set_max_links")) return;
     protocol->settings->config.max_links = most;
@@ -72,7 +72,7 @@ void limit_links(struct protocol *protocol, uint16_t most) {
  * marker. */
 void pass_revert_second(struct protocol *protocol) {
     if (!protocol->settings->revert || protocol->halt.down) return;
-    read_views(protocol->core, protocol->ports);
+    read_views_and_count(protocol->core, protocol->ports);
     for (uint16_t aggregator = 1; aggregator <= protocol->aggregator_count; aggregator++) {
         const struct link *next = next_of(protocol->ports, aggregator), *last = last_beyond(protocol->ports, aggregator, 0);
         if (!next || !last || identifier_of(next) >= identifier_of(last)) continue;

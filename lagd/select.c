@@ -108,5 +108,6 @@ void follow_peer(struct protocol *protocol, uint16_t aggregator) {
             protocol->settings->name, aggregator);
     else
         (void)say(protocol->core->lines, LOG_WARNING | ABOUT_BUNDLE,
-            "bundle %s: the peer sends in aggregator %u: it carries, whatever select=%s prefers", protocol->settings->name, aggregator, SELECTIONS[protocol->settings->select]);
+            "bundle %s: the peer sends in aggregator %u: it carries, whatever select=%s prefers", protocol->settings->name, aggregator,
+            SELECTIONS[protocol->settings->select]);
 }

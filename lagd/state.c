@@ -447,7 +447,7 @@ static void open_copy_folder(struct state *own) {
     const char *folder = own->carry->settings->state_dir, *fault;
     char lock[NAME_ROOM + 40];
     if (!folder[0] || own->copy_folder >= 0) return;
-    own->copy_folder = try_folder(folder, &fault);
+    own->copy_folder = open_or_make_folder(folder, &fault);
     if (own->copy_folder >= 0) {
         snprintf(lock, sizeof lock, "%s.lock", own->copy_name);
         own->lock = openat(own->copy_folder, lock, O_RDONLY | O_NOFOLLOW | O_NONBLOCK | O_CLOEXEC);

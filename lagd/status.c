@@ -103,7 +103,7 @@ static void send_report(struct control *control, struct caller *caller) {
     struct report *report = control->report;
     report->length = 0;
     report->refusal = NIW_OK;
-    read_views(control->core, control->ports);
+    read_views_and_count(control->core, control->ports);
     CALL(control->plane->passing->count, control->plane->tap);
     if (strcmp(asked, "text") == 0) write_text(report, control);
     if (strcmp(asked, "config") == 0) write_config(report, control);

@@ -74,7 +74,7 @@ void make_ports_and_system_or_stop(struct protocol *protocol) {
     protocol->aggregator_count = make_keys(&protocol->keys, protocol->ports, protocol->aggregator_keys);
     if (!is_done(protocol->core, put_system(&protocol->core->system, protocol, NULL, 0).status, "niw_new")) return;
     apply_holds(protocol->core, protocol->ports, false);
-    read_views(protocol->core, protocol->ports);
+    read_views_and_count(protocol->core, protocol->ports);
 }
 
 static void send_due_of(struct protocol *protocol, struct link *link) {
@@ -85,7 +85,7 @@ static void send_due_of(struct protocol *protocol, struct link *link) {
         if (due.what == NIW_SENT_MARKER)
             CALL(protocol->plane->carrying->send_marker, protocol->plane, link, frame);
         else
-            send_frame(protocol->core, &protocol->changes, link, frame);
+            send_frame(protocol->core, &protocol->changes.suspected, link, frame);
     }
 }
 
@@ -100,14 +100,14 @@ void send_due(struct protocol *protocol) {
 /* After calls that may have changed ports: what is due goes out, their views are read, and the plane looks at them again. */
 void send_due_and_read_views(struct protocol *protocol) {
     send_due(protocol);
-    read_views(protocol->core, protocol->ports);
+    read_views_and_count(protocol->core, protocol->ports);
     protocol->plane->changed = true;
 }
 
 /* Sends again what did not go before this tick, if nothing newer was due since. */
-void send_again(struct core *core, struct changes *changes, struct ports *ports) {
+void send_again(struct core *core, bool *suspected, struct ports *ports) {
     EACH_LINK(link, ports)
-        if (link->unsent && !link->tried) send_frame(core, changes, link, link->frame);
+        if (link->unsent && !link->tried) send_frame(core, suspected, link, link->frame);
 }
 
 void set_link_send_and_tell(struct protocol *protocol, struct link *link, bool up) {
@@ -140,7 +140,7 @@ void lose_and_release_link(struct protocol *protocol, struct link *link) {
 bool pass_system_tick(struct core *core, struct ports *ports) {
     bool taken = is_done(core, niw_tick(&core->system), "niw_tick");
     if (!taken) return false;
-    read_views(core, ports);
+    read_views_and_count(core, ports);
     EACH_LINK(link, ports) {
         const struct niw_view *view = &link->view;
         uint32_t status = niw_churn_tick(&link->churn, view->up, view->state, view->partner_state);
@@ -182,6 +182,6 @@ bool end_is_told(const struct ports *ports) {
 bool end_bundle_and_system(struct protocol *protocol) {
     EACH_LINK(link, protocol->ports)
         if (link->used) (void)say(protocol->core->lines, LOG_NOTICE | ABOUT_END, "port %u %s: ended", link->settings.number, link->name);
-    end_bundle(protocol->core, &protocol->bundle, protocol->control);
+    enter_down_state_and_tell_all(protocol->core, &protocol->bundle, protocol->control);
     return is_done(protocol->core, niw_free(&protocol->core->system), "niw_free") && !protocol->core->broken;
 }

@@ -26,7 +26,7 @@ static void set_timer(int timer, const struct answers *of_ports, uint16_t count)
 }
 
 bool answer_at_once(struct tap_plane *tap, struct link *link, const uint8_t *response) {
-    send_frame(tap->core, &tap->protocol->changes, link, response);
+    send_frame(tap->core, &tap->protocol->changes.suspected, link, response);
     return true;
 }
 
@@ -61,7 +61,7 @@ static void answer_due(struct tap_plane *tap, struct link *link) {
     while (answers->count > 0) {
         const struct answer *answer = &answers->waiting[answers->first];
         if (answer->due > now || (answer->unread > 0 && !fast)) return;
-        send_frame(tap->core, &tap->protocol->changes, link, answer->frame);
+        send_frame(tap->core, &tap->protocol->changes.suspected, link, answer->frame);
         answers->first = (answers->first + 1) % MOST_ANSWERS;
         answers->count--;
     }

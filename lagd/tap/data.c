@@ -75,7 +75,7 @@ void hand_up_frame(struct tap_plane *tap, uint32_t aggregator, uint8_t *packet, 
         return;
     }
     tap->carry->counts[OTHER_AGGREGATOR]++;
-    suspect_aggregator(tap->carry, aggregator);
+    suspect_or_follow_aggregator(tap->carry, aggregator);
 }
 
 /* Offers the oldest frame of a conversation again, of which one waits; answers whether it left. */
@@ -122,11 +122,11 @@ void tell_speed_and_carrier(struct plane *plane) {
 /* What goes on of the frames that come here, and the next moves. */
 void settle_frames(struct plane *plane) {
     struct tap_plane *tap = plane->tap;
-    choose_ports(plane);
+    choose_ports_and_tell_host(plane);
     CALL(plane->passing->withdraw, tap);
     if (leave_previous(tap->carry)) send_due(tap->protocol);
     CALL(plane->passing->set_collecting, tap);
-    look_at_partner(&tap->carry->probe, tap->carry);
+    reset_if_other_partner(&tap->carry->probe, tap->carry);
     if (tap->held.any_waits) offer_held_again(tap);
     if (tap->carry->to_balance) balance(tap->carry);
     if (tap->carry->to_balance) CALL(plane->passing->read_host, tap);
@@ -135,11 +135,11 @@ void settle_frames(struct plane *plane) {
 
 void pass_tick_of_frames(struct plane *plane) {
     struct tap_plane *tap = plane->tap;
-    begin_carry_tick(tap->carry);
+    begin_carry_tick_and_announce(tap->carry);
     CALL(plane->passing->tick, tap);
     note_heard(tap->carry);
     pass_flight_tick(tap);
     count_full_sockets(tap->members, tap->ports->count);
     CALL(plane->queueing->watch, tap);
-    end_carry_tick(tap->carry);
+    end_carry_tick_and_wake_ports(tap->carry);
 }

@@ -166,7 +166,7 @@ static void count_handed_up(struct carry *carry, struct fast_member *entry, uint
     counts[UNCOLLECTED] += uncollected;
     counts[WRONG_LENGTH] += wrong_length;
     carry->counts[HANDED_UP] += passed_up;
-    if (uncollected > 0) suspect_aggregator(carry, aggregator);
+    if (uncollected > 0) suspect_or_follow_aggregator(carry, aggregator);
 }
 
 static void count_fast_frames(struct tap_plane *tap) {

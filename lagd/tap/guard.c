@@ -113,7 +113,7 @@ static bool restore_line(int index, const char *what, const char *line, bool if_
 /* Loads the program that chooses queues, while the daemon may, and opens what wakes it for responses. */
 void start_all_queues(struct tap_plane *tap) {
     char reason[REASON_ROOM];
-    int fault = fault_of_programs(tap->settings);
+    int fault = try_to_attach_program(tap->settings);
     if (fault != 0) stop(REFUSED, "queues=all: no program of an interface, which Linux has from 6.6 on", strerror(-fault));
     tap->chooser = load_program(tap->settings, "chooser", NULL, reason);
     if (tap->chooser < 0) stop(REFUSED, "queues=all: the kernel takes no program", reason);
@@ -300,12 +300,12 @@ static uint32_t find_features(int index, uint32_t places[static JOINING]) {
     QUESTION(ethtool_gstrings, MOST_FEATURES * ETH_GSTRING_LEN) told = {{0}};
     known.about.cmd = ETHTOOL_GSSET_INFO;
     known.about.sset_mask = 1ULL << ETH_SS_FEATURES;
-    if (!ask_driver(index, &known) || known.about.sset_mask == 0 || known.about.data[0] > MOST_FEATURES) return 0;
+    if (!call_driver(index, &known) || known.about.sset_mask == 0 || known.about.data[0] > MOST_FEATURES) return 0;
     uint32_t count = known.about.data[0];
     told.about.cmd = ETHTOOL_GSTRINGS;
     told.about.string_set = ETH_SS_FEATURES;
     told.about.len = count;
-    if (count == 0 || !ask_driver(index, &told)) return 0;
+    if (count == 0 || !call_driver(index, &told)) return 0;
     for (size_t i = 0; i < JOINING; i++)
         for (places[i] = 0; places[i] < count; places[i]++)
             if (strncmp((char *)told.about.data + places[i] * ETH_GSTRING_LEN, joining[i], ETH_GSTRING_LEN) == 0) break;
@@ -323,7 +323,7 @@ static struct joins read_gro_and_lro(int index) {
     struct joins joins = {0};
     told.about.cmd = ETHTOOL_GFEATURES;
     told.about.size = WORDS;
-    if (count == 0 || !ask_driver(index, &told)) return joins;
+    if (count == 0 || !call_driver(index, &told)) return joins;
     for (size_t i = 0; i < JOINING; i++) {
         if (places[i] == count) continue;
         joins.on |= (told.about.features[places[i] / 32].active >> places[i] % 32 & 1) << i;
@@ -343,14 +343,14 @@ static void set_gro_and_lro(int index, unsigned wanted) {
         told.about.features[places[i] / 32].valid |= 1u << places[i] % 32;
         told.about.features[places[i] / 32].requested |= (wanted >> i & 1) << places[i] % 32;
     }
-    if (count > 0) (void)ask_driver(index, &told);
+    if (count > 0) (void)call_driver(index, &told);
 }
 
 /* How many queues an interface has for one direction, as `channels` tells in full: in several of them a marker may overtake data. Of a driver
  * that does not tell, those that the kernel has. */
 static unsigned read_channels(int index, struct ethtool_channels *channels) {
     *channels = (struct ethtool_channels){.cmd = ETHTOOL_GCHANNELS};
-    bool told = ask_driver(index, channels);
+    bool told = call_driver(index, channels);
     unsigned sends = told ? channels->tx_count : count_sending_queues(index), receives = told ? channels->rx_count : count_queues(index, "rx-");
     if (!told && receives == 0) receives = 1;
     return channels->combined_count + (sends > receives ? sends : receives);
@@ -365,7 +365,7 @@ static void reduce_to_one_queue(struct process *process, const struct link *link
     wanted.cmd = ETHTOOL_SCHANNELS;
     wanted.rx_count = wanted.tx_count = wanted.combined_count == 0;
     wanted.combined_count = wanted.combined_count > 0;
-    (void)ask_driver(link->index, &wanted);
+    (void)call_driver(link->index, &wanted);
 }
 
 static bool has_channels(int index, const struct ethtool_channels *wanted) {
@@ -378,7 +378,7 @@ static bool has_channels(int index, const struct ethtool_channels *wanted) {
 static bool restore_channels(int index, struct ethtool_channels *wanted) {
     wanted->cmd = ETHTOOL_SCHANNELS;
     if (wanted->combined_count + wanted->rx_count + wanted->tx_count == 0) return true;
-    return has_channels(index, wanted) || ask_driver(index, wanted) || has_channels(index, wanted);
+    return has_channels(index, wanted) || call_driver(index, wanted) || has_channels(index, wanted);
 }
 
 /* Whether an interface has no queueing discipline yet: it gets one when it comes up. */
@@ -467,7 +467,7 @@ bool set_all_queues(struct tap_plane *tap, struct link *link, struct guard *guar
     if (is_unqueued(link)) return false;
     spread_over_queues(tap->process, tap->chooser, link, guard);
     if (guard->spread && has_channels(link->index, before)) *before = (struct ethtool_channels){0};
-    write_settings(tap->process, link, &guard->before);
+    write_kept_file(tap->core->lines, tap->process->folder, link, &guard->before);
     if (!guard->spread) reduce_to_one_queue(tap->process, link);
     return true;
 }
@@ -503,7 +503,7 @@ void open_guard(struct tap_plane *tap, struct link *link, struct guard *guard) {
     if (!read_rps(link->index, before->steered)) before->steered[0] = 0;
     if (!tap->plane->passing->steers && has_no_processor(before->steered)) before->steered[0] = 0;
     bool gathers = before->steered[0] && !tap->plane->passing->steers; /* where the kernel passes data on, it does so only then */
-    keep_settings(tap->process, link, before);
+    merge_kept_file(tap->core->lines, tap->process->folder, link, before);
     bool has_queues = tap->plane->queueing->set(tap, link, guard, false);
     if (gathers && !guard->spread && !set_rps_to_one(link)) warn_of_data(tap->core->lines, link, SPREADS, NULL);
     run_programs(tap, link, guard);

@@ -197,7 +197,7 @@ static void move_member(struct plane *plane, struct link *link, const uint8_t *m
     const struct member *member = member_of(plane->tap, link);
     if (!is_open(member)) return;
     move_kept_queues(plane->tap->process, link, mac);
-    write_settings(plane->tap->process, link, &member->guard.before);
+    write_kept_file(plane->tap->core->lines, plane->tap->process->folder, link, &member->guard.before);
 }
 
 /* A queueing discipline of an interface changed: where each queue has one of the daemon, others may have put another one there, or taken theirs. */
@@ -216,7 +216,7 @@ static void watch_queues(struct tap_plane *tap) {
         if (!is_open(member)) continue;
         bool changed = is_changed_by_others(seconds_since(tap->protocol->began), link, &member->guard);
         if (!changed && !(member->guard.unusual && choose_usual_queues(&tap->usual_queues, tap->members, tap->ports->count, member->guard.queues))) continue;
-        if (!(changed ? tell_and_renew(tap, link) : renew_member(tap, link))) lose_member(tap->protocol, link);
+        if (!(changed ? tell_and_renew(tap, link) : renew_member(tap, link))) lose_link_and_ask_again(tap->protocol, link);
     }
 }
 

@@ -193,8 +193,8 @@ FILE *read_kept(int folder, const struct link *link, const char *kind);
 FILE *begin_kept(int folder, const struct link *link, const char *kind);
 bool end_kept(int folder, const struct link *link, const char *kind, FILE *file, bool done);
 void drop_kept(int folder, const struct link *link, const char *kind);
-void write_settings(struct process *process, const struct link *link, const struct kept *kept);
-void keep_settings(struct process *process, const struct link *link, struct kept *kept);
+void write_kept_file(struct lines *lines, int folder, const struct link *link, const struct kept *kept);
+void merge_kept_file(struct lines *lines, int folder, const struct link *link, struct kept *kept);
 void recall_settings(int folder, const struct link *link, struct kept *kept);
 
 /* host.c */

@@ -46,13 +46,13 @@ static bool set_fifo(int index, uint32_t megabits, unsigned flags, uint32_t pare
     struct tc_fifo_qopt most = {most_queued(megabits)};
     mnl_attr_put_strz(&question.head, TCA_KIND, "bfifo");
     mnl_attr_put(&question.head, TCA_OPTIONS, sizeof most, &most);
-    return ask_kernel(&question);
+    return call_rtnetlink(&question);
 }
 
 static bool change_root(uint16_t type, unsigned flags, int index, uint32_t handle, const char *kind) {
     union message question = question_of(type, flags, index, TC_H_ROOT, handle);
     if (kind) mnl_attr_put_strz(&question.head, TCA_KIND, kind);
-    return ask_kernel(&question);
+    return call_rtnetlink(&question);
 }
 
 struct disciplines {
@@ -144,7 +144,7 @@ static union message question_of_classifier(uint16_t type, unsigned flags, int i
 
 static bool has_classifier(int index, uint32_t handle) {
     union message question = question_of_classifier(RTM_GETTFILTER, 0, index, handle);
-    return ask_kernel(&question);
+    return call_rtnetlink(&question);
 }
 
 /* Sees a filter: whether it is nothing but the classifier of the daemon, of which the kernel tells first of its priority, and then of itself. */
@@ -168,20 +168,20 @@ static void leave_place(int index, bool made) {
     bool alone = made && has_own_alone(index, TC_H_MIN_INGRESS) && has_own_alone(index, TC_H_MIN_EGRESS);
     union message place = question_of_place(RTM_DELQDISC, 0, index);
     union message own = question_of_classifier(RTM_DELTFILTER, 0, index, made ? PLACE_MADE : PLACE_FOUND);
-    (void)ask_kernel(alone ? &place : &own);
+    (void)call_rtnetlink(alone ? &place : &own);
 }
 
 /* Has a program look at what the stack of an interface would get, on a kernel without TCX. It stays when the daemon is killed, and the next
  * one takes it over. */
 enum classifier set_classifier(int program, int index) {
     union message place = question_of_place(RTM_NEWQDISC, NLM_F_CREATE | NLM_F_EXCL, index), question;
-    bool made = ask_kernel(&place) || has_classifier(index, PLACE_MADE);
+    bool made = call_rtnetlink(&place) || has_classifier(index, PLACE_MADE);
     question = question_of_classifier(RTM_NEWTFILTER, NLM_F_CREATE, index, made ? PLACE_MADE : PLACE_FOUND);
     struct nlattr *nest = mnl_attr_nest_start(&question.head, TCA_OPTIONS);
     mnl_attr_put_u32(&question.head, TCA_BPF_FD, (uint32_t)program);
     mnl_attr_put_u32(&question.head, TCA_BPF_FLAGS, TCA_BPF_FLAG_ACT_DIRECT);
     mnl_attr_nest_end(&question.head, nest);
-    if (ask_kernel(&question)) return made ? CLASSIFIER_ALONE : CLASSIFIER_BEHIND_OTHERS;
+    if (call_rtnetlink(&question)) return made ? CLASSIFIER_ALONE : CLASSIFIER_BEHIND_OTHERS;
     if (made) leave_place(index, true);
     return NO_CLASSIFIER;
 }

@@ -126,7 +126,7 @@ static void lose_refused_member(struct team_plane *team, uint16_t port, int faul
     team->shortages = 0;
     if (if_indextoname((unsigned)link->index, name)) /* of one that is gone the kernel tells, too */
         (void)say(team->core->lines, LOG_WARNING | ABOUT_DATA, "port %u %s: the team driver refuses it: %s", port, link->name, strerror(fault));
-    lose_member(team->protocol, link);
+    lose_link_and_ask_again(team->protocol, link);
 }
 
 static bool set_passing_or_lose_member(struct team_plane *team, uint16_t port, bool wanted) {
@@ -176,9 +176,9 @@ static void place_in_active(struct team_plane *team) {
 void settle_team(struct plane *plane) {
     struct carry *carry = plane->carry;
     uint16_t before = carry->active;
-    choose_ports(plane);
+    choose_ports_and_tell_host(plane);
     place_in_active(plane->team);
-    if (carry->active != before) forget_heard(carry); /* until now frames came by the ports of the last one */
+    if (carry->active != before) count_and_forget_heard(carry); /* until now frames came by the ports of the last one */
 }
 
 /* Whether a bucket is to go to the port of its number, once it is still. */
@@ -208,11 +208,11 @@ unsigned count_waiting_buckets(const struct team_plane *team) {
 
 void pass_tick_of_team(struct plane *plane) {
     struct team_plane *team = plane->team;
-    begin_carry_tick(team->carry);
+    begin_carry_tick_and_announce(team->carry);
     unsigned waiting = count_waiting_buckets(team);
     if (team->carry->time - team->looked_at >= (waiting > 0 ? LOOKED_WAITING : LOOKED_EVERY)) look_at_driver(team);
     if (waiting > 0) rest_silent_conversations(team->core, team, &team->carry->counts[RESTED]);
     if (team->protocol->ticks % SECOND == 0) give_addresses_or_lose_members(team);
     note_heard(team->carry);
-    end_carry_tick(team->carry);
+    end_carry_tick_and_wake_ports(team->carry);
 }

@@ -73,7 +73,7 @@ static void adopt_device_or_stop(struct team_plane *team, const struct interface
         stop(REFUSED, team->settings->carry, "a team device with ports of others is there");
     team->plane->owns_device = known && team->process->inherited->persists;
     need(known || set_address(device->index, mac), team->settings->carry);
-    use_team_device(team->device, device->index);
+    use_team_device_or_stop(team->device, device->index);
 }
 
 /* A TAP device of the last daemon goes. Finds its team device, whatever an administrator named it since, or else one of this name; answers whether
@@ -122,7 +122,7 @@ void give_addresses_or_lose_members(struct team_plane *team) {
         if (fault == 0) continue;
         (void)say(team->core->lines, LOG_WARNING | ABOUT_DATA, "port %u %s: it does not take the address of %s: %s", link->settings.number,
             link->name, team->settings->carry, strerror(-fault));
-        lose_member(team->protocol, link);
+        lose_link_and_ask_again(team->protocol, link);
     }
 }
 
@@ -221,7 +221,7 @@ static void open_team(struct plane *plane) {
         need(make_team_device(name, mac, least_mtu(team->settings)) && ask_interface(0, name, &device), name);
         lock_device_or_stop(team, device.index); /* another one may have taken it at once */
         plane->owns_device = plane->is_new = true;
-        use_team_device(team->device, device.index);
+        use_team_device_or_stop(team->device, device.index);
     }
     need(read_team(team->family, team->device->index, &now), "team");
     configure_driver_or_stop(team->family, team->device->index, team->settings, now.mode);
@@ -249,7 +249,7 @@ static int unshare_and_check_team(struct lines *lines, struct plane *plane, cons
 const struct carrying TEAM_DEVICE = {
     .open = open_team, .end = end_team_plane, .lose_device = lose_device, .leave = leave_team, .give_carrier = give_team_carrier,
     .add = open_team_port, .remove = close_team_port, .see_port = is_still_team_port, .settle = settle_team, .tick = pass_tick_of_team,
-    .keeps_aggregator = heard_peer_lately, .frames_heard = team_frames_received, .resume = resume_conversations, .go_on = choose_ports,
-    .member_of = bucket_member_of, .end_resuming = release_former_members, .check = unshare_and_check_team, .show = show_carry, .show_member = show_member,
-    .show_waiting = show_waiting_buckets, .first_count = MOVES, .end_count = WOKEN + 1, .administers = true, .nameless = "",
+    .keeps_aggregator = heard_peer_lately, .frames_heard = team_frames_received, .resume = resume_conversations, .go_on = choose_ports_and_tell_host,
+    .member_of = bucket_member_of, .end_resuming = release_former_members, .check = unshare_and_check_team, .show = show_carry,
+    .show_member = show_member, .show_waiting = show_waiting_buckets, .first_count = MOVES, .end_count = WOKEN + 1, .administers = true, .nameless = "",
 };

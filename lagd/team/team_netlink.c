@@ -34,24 +34,24 @@ bool make_team_device(const char *name, const uint8_t *mac, uint32_t mtu) {
     struct nlattr *nest = mnl_attr_nest_start(&wanted.head, IFLA_LINKINFO);
     mnl_attr_put_strz(&wanted.head, IFLA_INFO_KIND, TEAM_KIND);
     mnl_attr_nest_end(&wanted.head, nest);
-    return ask_kernel(&wanted);
+    return call_rtnetlink(&wanted);
 }
 
 bool remove_device(int index) {
     union message wanted = message_of_interface(RTM_DELLINK, NLM_F_ACK, index);
-    return ask_kernel(&wanted);
+    return call_rtnetlink(&wanted);
 }
 
 bool set_interface_up(int index, bool up) {
     struct ifinfomsg about = {.ifi_index = index, .ifi_flags = up ? IFF_UP : 0, .ifi_change = IFF_UP};
     union message wanted = message_of(RTM_SETLINK, NLM_F_ACK, &about, sizeof about);
-    return ask_kernel(&wanted);
+    return call_rtnetlink(&wanted);
 }
 
 static bool set_attribute(int index, uint16_t type, const void *value, size_t length) {
     union message wanted = message_of_interface(RTM_SETLINK, NLM_F_ACK, index);
     mnl_attr_put(&wanted.head, type, length, value);
-    return ask_kernel(&wanted);
+    return call_rtnetlink(&wanted);
 }
 
 bool set_master(int index, int master) {

@@ -135,10 +135,10 @@ bool read_team(uint16_t family, int index, struct team_now *now) {
 /* What the daemon has beside. */
 ANSWERS(uint64_t milliseconds, lagd->carry.time, void)
 NOTHING(give_addresses_or_lose_members, struct team_plane *team)
-NOTHING(begin_carry_tick, struct carry *carry)
+NOTHING(begin_carry_tick_and_announce, struct carry *carry)
 NOTHING(note_heard, struct carry *carry)
-NOTHING(end_carry_tick, struct carry *carry)
-NOTHING(forget_heard, struct carry *carry)
+NOTHING(end_carry_tick_and_wake_ports, struct carry *carry)
+NOTHING(count_and_forget_heard, struct carry *carry)
 void set_carrier(struct device *device, bool on) {
     carrier = on;
 }
@@ -147,7 +147,7 @@ bool say(struct lines *lines, int level, const char *format, ...) {
     return true;
 }
 
-void choose_ports(struct plane *plane) {
+void choose_ports_and_tell_host(struct plane *plane) {
     lagd->carry.active_count = 0;
     for (uint16_t port = 1; port <= PORTS; port++)
         if (distributes[port]) lagd->carry.active_ports[lagd->carry.active_count++] = port;
@@ -155,7 +155,7 @@ void choose_ports(struct plane *plane) {
 }
 
 /* The driver refused something of a port: its link is lost, and so is its place. */
-void lose_member(struct protocol *protocol, struct link *link) {
+void lose_link_and_ask_again(struct protocol *protocol, struct link *link) {
     uint16_t port = (uint16_t)(link - protocol->ports->links + 1);
     lost++;
     distributes[port] = lagd->team.taken[port - 1] = enabled[port] = false;
@@ -216,7 +216,7 @@ static void pass(bool eventful) {
     if (eventful) happen();
     if (eventful) send_some();
     if (!eventful || random_below(4) > 0) count();
-    choose_ports(&lagd->plane);
+    choose_ports_and_tell_host(&lagd->plane);
     pass_tick_of_team(&lagd->plane);
     settle();
 }

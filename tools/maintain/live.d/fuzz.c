@@ -80,7 +80,7 @@ static void make_ports(void) {
     make_ports_and_system_or_stop(&lagd->protocol);
     if (!mkdtemp(folder) || socketpair(AF_UNIX, SOCK_DGRAM | SOCK_NONBLOCK, 0, wire) < 0) abort();
     (void)atexit(remove_folder);
-    lagd->process.folder = open_folder(folder);
+    lagd->process.folder = make_status_folder_or_stop(folder);
     open_status_or_stop(&lagd->process, folder);
     lagd->process.has_started = true;
     set_link_send_and_tell(&lagd->protocol, &lagd->ports.links[0], true);
@@ -198,7 +198,7 @@ static void fuzz_messages(const uint8_t *octets, size_t length) {
     uint8_t *messages = malloc(length);
     if (!messages) return;
     memcpy(messages, octets, length);
-    read_messages(&lagd->protocol, messages, length);
+    follow_messages_or_end(&lagd->protocol, messages, length);
     free(messages);
 }
 

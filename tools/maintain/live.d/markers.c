@@ -106,9 +106,9 @@ static void begin(void) {
     lagd->ports.links[0].view.partner_key++;
     now += MINUTE;
     lagd->carry.time = now;
-    look_at_partner(&lagd->carry.probe, &lagd->carry);
+    reset_if_other_partner(&lagd->carry.probe, &lagd->carry);
     lagd->ports.links[0].view.partner_key = (uint16_t)now;
-    look_at_partner(&lagd->carry.probe, &lagd->carry);
+    reset_if_other_partner(&lagd->carry.probe, &lagd->carry);
     sent = again = lines = 0;
     CHECK(lagd->carry.probe.peer == NOT_ASKED);
 }

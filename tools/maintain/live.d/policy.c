@@ -185,7 +185,7 @@ bool send_marker_again(struct tap_plane *tap, uint16_t port) {
     put_slow(end, port, end->marker[port]);
     return true;
 }
-void send_frame(struct core *core, struct changes *changes, struct link *link, const uint8_t *frame) {
+void send_frame(struct core *core, bool *suspected, struct link *link, const uint8_t *frame) {
     struct end *end = end_of(core);
     uint8_t sent[NIW_FRAME];
     memcpy(sent, frame, sizeof sent);
@@ -226,7 +226,7 @@ void notify_bundle(const struct bundle *bundle, const char *what) {
 NOTHING(write_port_of_conversation, struct state *state, uint16_t number, uint16_t port)
 /* the library, */
 ANSWERS(bool carries, link->view.port_status == NIW_PORT_STATUS_DISTRIBUTING, const struct protocol *protocol, const struct link *link)
-void read_views(struct core *core, struct ports *ports) {
+void read_views_and_count(struct core *core, struct ports *ports) {
     struct niw_view views[NIW_MOST_PORTS];
     uint64_t changed;
     if (!is_told(core, niw_views(&core->system, views, NIW_MOST_PORTS), "niw_views", &changed)) return;
@@ -261,7 +261,7 @@ struct niw_number conversation_of(struct protocol *protocol, const uint8_t *fram
 
 /* and what is of members with several queues, of which there are none here; */
 static bool answer(struct tap_plane *tap, struct link *link, const uint8_t *response) {
-    send_frame(tap->core, &tap->protocol->changes, link, response);
+    send_frame(tap->core, &tap->protocol->changes.suspected, link, response);
     return true;
 }
 static void accept_any(struct tap_plane *tap, struct link *link, const struct arrival *arrival, uint32_t id) {
@@ -294,7 +294,7 @@ static void set_link_of(struct end *end, uint16_t port, bool up) {
     if (!is_done(&end->lagd.core, niw_set_link(&end->lagd.core.system, port, up), "niw_set_link")) return;
     end->lagd.plane.changed = true;
     send_due(&end->lagd.protocol);
-    read_views(&end->lagd.core, &end->lagd.ports);
+    read_views_and_count(&end->lagd.core, &end->lagd.ports);
     settle_carry(&end->lagd.plane);
 }
 
@@ -423,7 +423,7 @@ static void hold(struct end *end, uint16_t port, bool held) {
     struct link *link = &end->lagd.ports.links[port - 1];
     link->emptying = false;
     CHECK(niw_hold(&end->lagd.core.system, port, held) == NIW_OK);
-    read_views(&end->lagd.core, &end->lagd.ports);
+    read_views_and_count(&end->lagd.core, &end->lagd.ports);
     end->lagd.plane.changed = true;
     send_due(&end->lagd.protocol);
     settle_carry(&end->lagd.plane);
@@ -450,7 +450,7 @@ static void pass_time(struct end *end, unsigned ticks) {
     for (; ticks > 0; ticks--) {
         CHECK(niw_tick(&lagd->core.system) == NIW_OK);
         lagd->protocol.ticks++;
-        read_views(&lagd->core, &lagd->ports);
+        read_views_and_count(&lagd->core, &lagd->ports);
         if (!lagd->core.broken) CALL(lagd->plane.carrying->tick, &lagd->plane);
         end_emptying(end);
         if (now / 1000 != (now - TICK) / 1000 && lagd->protocol.bundle.lines_left < MOST_LINES) lagd->protocol.bundle.lines_left++;
@@ -458,8 +458,8 @@ static void pass_time(struct end *end, unsigned ticks) {
     }
     check_waiting(end);
     send_due(&lagd->protocol);
-    read_views(&lagd->core, &lagd->ports);
-    look_at_bundle(&lagd->protocol);
+    read_views_and_count(&lagd->core, &lagd->ports);
+    choose_and_tell_bundle(&lagd->protocol);
     settle_carry(&lagd->plane);
     CHECK(!end->carrier || any_distributes(lagd));
 }

@@ -66,7 +66,7 @@ static void make_daemon(void) {
     strcpy(lagd->settings.state_dir, folder);
     lagd->settings.config.mac[0] = 2;
     if (add_port(&lagd->settings, "lo", 2) || add_port(&lagd->settings, "gone", 4)) abort();
-    lagd->process.folder = open_folder(folder);
+    lagd->process.folder = make_status_folder_or_stop(folder);
     lagd->process.lines.output = open("/dev/null", O_WRONLY);
     broken = open("/proc/self/mem", O_RDONLY);
     recall_state_or_leave_device(&lagd->state);
