@@ -63,7 +63,7 @@ struct announce {
  * tell for how long nothing was. */
 struct carry {
     PARTS
-    struct state *state;
+    struct state *state;           /* it gets a line as a conversation goes on by another interface */
     uint64_t time;                 /* of the last tick */
     uint16_t active;               /* the aggregator whose ports carry the data, or 0 */
     uint16_t active_ports[NIW_MOST_PORTS]; /* of it, those that distribute */
@@ -114,8 +114,8 @@ bool is_told_distributing(struct core *core, uint16_t port, bool wanted);
 /* moves.c */
 void ask_moves(struct carry *carry);
 bool can_empty(const struct plane *plane, const struct link *link);
-bool empty_port(struct plane *plane, const struct link *link);
-void balance(struct carry *carry);
+bool empty_port_and_send(struct plane *plane, const struct link *link);
+void balance_and_send(struct carry *carry);
 
 /* announce.c */
 void announce_soon(struct announce *own);

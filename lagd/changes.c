@@ -78,7 +78,7 @@ void lose_link_and_ask_again(struct protocol *protocol, struct link *link) {
 static void follow_link(struct protocol *protocol, struct link *link, const struct interface *interface) {
     const unsigned carried = IFF_UP | IFF_RUNNING | IFF_LOWER_UP;
     bool carrier = (interface->flags & carried) == carried, lost = false;
-    if (interface->has_mac) follow_address(protocol->plane, link, interface->mac);
+    if (interface->has_mac) set_mac_and_move_kept(protocol->plane, link, interface->mac);
     if (interface->discipline[0] && strcmp(link->discipline, interface->discipline) != 0 && !reopen_member(protocol->plane, link)) {
         lose_link_and_ask_again(protocol, link);
         return;

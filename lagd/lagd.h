@@ -650,6 +650,6 @@ void remove_all_members(struct plane *plane, const struct ports *ports);
 /* tap/guard.c, tap/members.c */
 void fit_queue(const struct plane *plane, const struct link *link);
 bool reopen_member(struct plane *plane, struct link *link);
-void follow_address(struct plane *plane, struct link *link, const uint8_t *mac);
+void set_mac_and_move_kept(struct plane *plane, struct link *link, const uint8_t *mac);
 
 #endif

@@ -152,9 +152,9 @@ static void serve_all_frames(struct protocol *protocol, const struct epoll_event
 static void serve_all_data(struct tap_plane *tap, const struct epoll_event *events, int count) {
     bool host = is_cutting(tap->core, &tap->host) || is_ready(events, count, HOST);
     for (int i = 0; i < count; i++)
-        if (events[i].data.u32 >= MEMBERS) serve_data(tap, events[i].data.u32);
+        if (events[i].data.u32 >= MEMBERS) serve_settle_and_send(tap, events[i].data.u32);
     settle_carry(tap->plane);
-    if (host) serve_data(tap, HOST);
+    if (host) serve_settle_and_send(tap, HOST);
 }
 
 /* The next daemon is to go on, if it can. */

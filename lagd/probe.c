@@ -36,7 +36,7 @@ static void ask_peer(struct carry *carry) {
     if (own->peer == NOT_ASKED) own->peer = ASKED;
     own->asked_on = carry->active_ports[0];
     own->asked_at = own->sent_at = carry->time;
-    send_new_marker(carry->plane, &carry->ports->links[own->asked_on - 1], marker);
+    withdraw_and_send_new_marker(carry->plane, &carry->ports->links[own->asked_on - 1], marker);
 }
 
 /* It is known whether the peer answers: says so, if that is new. */
@@ -72,7 +72,7 @@ void pass_probe_tick(struct tap_plane *tap) {
         note_answering(carry->core->lines, &carry->probe, MUTE);
     } else if (own->asking && carry->time - own->sent_at >= AGAIN) {
         own->sent_at = carry->time;
-        if (send_marker_again(tap, own->asked_on)) carry->counts[MARKERS_AGAIN]++;
+        if (withdraw_and_repeat_marker(tap, own->asked_on)) carry->counts[MARKERS_AGAIN]++;
     }
     if (own->asking || carry->active_count == 0) return;
     if (own->peer == NOT_ASKED || (own->peer == MUTE && carry->time - own->asked_at >= LATER)) ask_peer(carry);

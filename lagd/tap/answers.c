@@ -7,7 +7,7 @@
 /* More packets than the socket of a member has room for. */
 #define MOST_UNREAD 32768
 
-int open_answer_timer(int epoll_file) {
+int open_answer_timer_or_stop(int epoll_file) {
     int timer = timerfd_create(CLOCK_MONOTONIC, TFD_NONBLOCK | TFD_CLOEXEC);
     if (timer < 0 || !await_input(epoll_file, timer, RESPONSES)) stop(REFUSED, "no clock", strerror(errno));
     return timer;
@@ -51,12 +51,12 @@ void note_unread(struct answers *answers, unsigned packets, bool drained) {
 }
 
 /* Sends what is due on a port, behind the data that came before. */
-static void answer_due(struct tap_plane *tap, struct link *link) {
+static void receive_and_answer_due(struct tap_plane *tap, struct link *link) {
     struct answers *answers = &tap->answers[link - tap->ports->links];
     const struct member *member = &tap->members[link - tap->ports->links];
     uint64_t now = milliseconds();
     if (answers->count == 0 || answers->waiting[answers->first].due > now) return;
-    if (!is_fast(member)) receive_data(tap, link);
+    if (!is_fast(member)) receive_data_and_changes(tap, link);
     bool fast = is_fast(member);
     while (answers->count > 0) {
         const struct answer *answer = &answers->waiting[answers->first];
@@ -67,9 +67,9 @@ static void answer_due(struct tap_plane *tap, struct link *link) {
     }
 }
 
-void serve_answers(struct tap_plane *tap) {
+void serve_data_and_answers(struct tap_plane *tap) {
     uint64_t passed;
     (void)!read(tap->answer_timer, &passed, sizeof passed);
-    EACH_LINK(link, tap->ports) answer_due(tap, link);
+    EACH_LINK(link, tap->ports) receive_and_answer_due(tap, link);
     set_timer(tap->answer_timer, tap->answers, tap->ports->count);
 }

@@ -16,7 +16,7 @@ static void hold_frame(struct carry *carry, struct held *held, uint16_t number, 
 /* What becomes of the next frame of a conversation: it waits, there is no port for it, or it goes on the port of the conversation. */
 enum offered { WAITS, LOST, GOES };
 
-static enum offered offer_frame(struct carry *carry, struct conversation *conversation, uint16_t number) {
+static enum offered offer_and_write_port(struct carry *carry, struct conversation *conversation, uint16_t number) {
     if (carry->time < conversation->fast.not_before) return WAITS;
     struct niw_number answer = niw_offer_conversation_in_active_aggregator(&carry->core->system, carry->active, number);
     if (answer.status == NIW_HELD) return WAITS;
@@ -55,7 +55,7 @@ void accept_from_host(struct tap_plane *tap, uint8_t *packet, size_t length) {
     }
     if (tap->carry->active != 0) {
         conversation->used = true;
-        offered = none_held(tap->core, &tap->held, (uint16_t)number) ? offer_frame(tap->carry, conversation, (uint16_t)number) : WAITS;
+        offered = none_held(tap->core, &tap->held, (uint16_t)number) ? offer_and_write_port(tap->carry, conversation, (uint16_t)number) : WAITS;
     }
     if (offered == WAITS) hold_frame(tap->carry, &tap->held, (uint16_t)number, packet, length);
     if (offered == GOES) send_by_port(tap, conversation, packet, length);
@@ -69,7 +69,7 @@ uint64_t frames_handed_up(struct plane *plane, bool counts_now) {
     return carry->counts[HANDED_UP] + carry->counts[HOST_UNTAKEN];
 }
 
-void hand_up_frame(struct tap_plane *tap, uint32_t aggregator, uint8_t *packet, size_t length) {
+void hand_up_or_suspect(struct tap_plane *tap, uint32_t aggregator, uint8_t *packet, size_t length) {
     if (aggregator == tap->carry->active) {
         put_host(tap, packet, length);
         return;
@@ -79,8 +79,8 @@ void hand_up_frame(struct tap_plane *tap, uint32_t aggregator, uint8_t *packet, 
 }
 
 /* Offers the oldest frame of a conversation again, of which one waits; answers whether it left. */
-static bool offer_oldest_again(struct tap_plane *tap, struct conversation *conversation, uint16_t number) {
-    enum offered offered = tap->carry->active == 0 ? WAITS : offer_frame(tap->carry, conversation, number);
+static bool send_or_drop_oldest(struct tap_plane *tap, struct conversation *conversation, uint16_t number) {
+    enum offered offered = tap->carry->active == 0 ? WAITS : offer_and_write_port(tap->carry, conversation, number);
     size_t length;
     if (offered == WAITS) return false;
     conversation->fast.touched = true;
@@ -97,7 +97,7 @@ static bool offer_oldest_again(struct tap_plane *tap, struct conversation *conve
 }
 
 /* Offers again what waits, of each conversation until one is held. */
-static void offer_held_again(struct tap_plane *tap) {
+static void send_held_and_pass_on(struct tap_plane *tap) {
     uint64_t unseen; /* the frames of the conversations that were not looked at yet */
     bool any_left = false;
     if (!count_all_held(tap->core, &tap->held, &unseen)) return;
@@ -105,7 +105,7 @@ static void offer_held_again(struct tap_plane *tap) {
         uint64_t left;
         any_left = !count_held(tap->core, &tap->held, number, &left) || any_left;
         unseen -= left;
-        while (left > 0 && offer_oldest_again(tap, &tap->carry->conversations[number], number)) left--;
+        while (left > 0 && send_or_drop_oldest(tap, &tap->carry->conversations[number], number)) left--;
         if (left > 0) any_left = true;
     }
     tap->held.any_waits = any_left;
@@ -113,22 +113,22 @@ static void offer_held_again(struct tap_plane *tap) {
     CALL(tap->plane->passing->pass_on, tap);
 }
 
-void tell_speed_and_carrier(struct plane *plane) {
+void set_speed_and_carrier(struct plane *plane) {
     struct tap_plane *tap = plane->tap;
     set_speed(tap->device, sum_speeds(tap->carry, tap->members));
     set_carrier(tap->device, tap->carry->active != 0);
 }
 
 /* What goes on of the frames that come here, and the next moves. */
-void settle_frames(struct plane *plane) {
+void choose_move_and_send(struct plane *plane) {
     struct tap_plane *tap = plane->tap;
     choose_ports_and_tell_host(plane);
     CALL(plane->passing->withdraw, tap);
     if (leave_previous(tap->carry)) send_due(tap->protocol);
     CALL(plane->passing->set_collecting, tap);
     reset_if_other_partner(&tap->carry->probe, tap->carry);
-    if (tap->held.any_waits) offer_held_again(tap);
-    if (tap->carry->to_balance) balance(tap->carry);
+    if (tap->held.any_waits) send_held_and_pass_on(tap);
+    if (tap->carry->to_balance) balance_and_send(tap->carry);
     if (tap->carry->to_balance) CALL(plane->passing->read_host, tap);
     tap->carry->to_balance = false;
 }

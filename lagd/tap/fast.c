@@ -27,18 +27,18 @@ static int load_or_stop(const struct settings *settings, const char *name, const
 }
 
 /* Has a program run at the TAP device; answers what keeps it there. */
-static int run_program_or_stop(struct process *process, int device, const char *name, const struct fast_maps *maps, bool egress) {
+static int run_program_or_stop(struct process *process, int index, const char *name, const struct fast_maps *maps, bool egress) {
     CLOSED_FILE int program = load_or_stop(process->settings, name, maps);
-    int opened = attach_stored(&process->store, name, program, device, egress);
+    int opened = attach_stored(&process->store, name, program, index, egress);
     if (opened < 0) stop(REFUSED, "fast: no program of an interface, which Linux has from 6.6 on", strerror(-opened));
     return opened;
 }
 
 /* A table that the programs share with the daemon: that of the last daemon, where that left one for this device, or a new one. */
-static void *open_map(struct process *process, int device, int number, uint32_t size, uint32_t count, int *map) {
+static void *open_map_or_stop(struct process *process, int index, int number, uint32_t size, uint32_t count, int *map) {
     int left = process->inherited->tap;
     *map = claim_stored(&process->store, "map", number);
-    void *at = *map >= 0 && left != 0 && left == device ? map_again(size, count, *map) : NULL;
+    void *at = *map >= 0 && left != 0 && left == index ? map_again(size, count, *map) : NULL;
     if (at) return at;
     if (*map >= 0) close_stored(&process->store, "map", number, *map);
     at = make_map(size, count, map);
@@ -68,10 +68,10 @@ static void start_fast(struct tap_plane *tap) {
     struct fast_maps maps;
     int device = tap->device->index;
     need(wait_for_programs(), "fast: the kernel cannot wait for its programs (membarrier)");
-    own->rows = open_map(tap->process, device, 0, sizeof *own->rows, CONVERSATIONS, &maps.rows);
-    own->entries = open_map(tap->process, device, 1, sizeof *own->entries, NIW_MOST_PORTS, &maps.members);
-    own->host = open_map(tap->process, device, 2, sizeof *own->host, 1, &maps.host);
-    own->places = open_map(tap->process, device, 3, sizeof *own->places, PLACES, &maps.places);
+    own->rows = open_map_or_stop(tap->process, device, 0, sizeof *own->rows, CONVERSATIONS, &maps.rows);
+    own->entries = open_map_or_stop(tap->process, device, 1, sizeof *own->entries, NIW_MOST_PORTS, &maps.members);
+    own->host = open_map_or_stop(tap->process, device, 2, sizeof *own->host, 1, &maps.host);
+    own->places = open_map_or_stop(tap->process, device, 3, sizeof *own->places, PLACES, &maps.places);
     begin_tables(own, tap->ports->count);
     if (own->host->mac == 0) memcpy(&own->host->mac, tap->settings->config.mac, ETH_ALEN);
     own->receiver = load_or_stop(tap->settings, "receiver", &maps);
@@ -80,7 +80,7 @@ static void start_fast(struct tap_plane *tap) {
 }
 
 /* The kernel passes nothing on any more by this row. */
-static void clear_row(struct fast_row *row) {
+static void drop_row_member(struct fast_row *row) {
     (void)__atomic_and_fetch(&row->word, ~(uint64_t)UINT32_MAX, __ATOMIC_SEQ_CST);
 }
 
@@ -96,7 +96,7 @@ static void open_host(struct tap_plane *tap, bool open) {
 static void end_fast(struct tap_plane *tap) {
     struct fast_programs *own = &tap->fast;
     open_host(tap, false);
-    for (uint16_t number = 0; number < CONVERSATIONS; number++) clear_row(&own->rows[number]);
+    for (uint16_t number = 0; number < CONVERSATIONS; number++) drop_row_member(&own->rows[number]);
     for (uint16_t i = 0; i < tap->ports->count; i++) __atomic_store_n(&own->entries[i].up_to, 0, __ATOMIC_SEQ_CST);
     if (own->sender >= 0) detach_stored(&tap->process->store, "sender", tap->device->index, own->sender);
     if (own->handover >= 0) detach_stored(&tap->process->store, "handover", tap->device->index, own->handover);
@@ -121,7 +121,7 @@ int open_fast_receiver(struct store *store, struct fast_programs *own, const str
     return attach_stored(store, "guard", own->receiver, wanted->index, false);
 }
 
-void close_fast_receiver(struct fast_programs *own, const struct link *link) {
+void clear_fast_place(struct fast_programs *own, const struct link *link) {
     __atomic_store_n(place_at(own, link), 0, __ATOMIC_SEQ_CST);
 }
 
@@ -138,28 +138,28 @@ static uint64_t word_of(const struct fast_row *row) {
 }
 
 /* So many segments that were left to the daemon are dealt with. What counts less was of segments that nobody had counted. */
-static void subtract_segments(struct fast_row *row, struct conversation *conversation, uint64_t segments) {
+static void subtract_segments(struct fast_row *row, uint64_t segments, bool *suspected) {
     uint64_t before = word_of(row), after;
     if (segments == 0) return;
     do {
         uint64_t left = before >> 32;
         after = before - ((left < segments ? left : segments) << 32);
     } while (!__atomic_compare_exchange_n(&row->word, &before, after, false, __ATOMIC_SEQ_CST, __ATOMIC_SEQ_CST));
-    conversation->fast.suspected = false;
+    *suspected = false;
 }
 
-/* Counts what the kernel passed on of a conversation; answers how many frames that were. */
-static uint64_t count_passed(struct fast_row *row, struct conversation *conversation, struct member *members) {
+/* Counts what the kernel passed on of a conversation on its port; answers how many frames that were. */
+static uint64_t count_passed(struct fast_row *row, uint16_t port, struct member *members, bool *used) {
     uint64_t passed = take_count(&row->passed);
-    if (passed == 0 || conversation->fast.port == 0) return 0;
-    conversation->used = true;
-    members[conversation->fast.port - 1].counts[DATA_SENT] += passed;
-    members[conversation->fast.port - 1].counts[PASSED_ON] += passed;
+    if (passed == 0 || port == 0) return 0;
+    *used = true;
+    members[port - 1].counts[DATA_SENT] += passed;
+    members[port - 1].counts[PASSED_ON] += passed;
     return passed;
 }
 
 /* Counts what the kernel handed up, or lost, of what came on a port. */
-static void count_handed_up(struct carry *carry, struct fast_member *entry, uint64_t counts[static MEMBER_COUNTS], uint32_t aggregator) {
+static void count_handed_and_suspect(struct carry *carry, struct fast_member *entry, uint64_t counts[static MEMBER_COUNTS], uint32_t aggregator) {
     uint64_t passed_up = take_count(&entry->passed_up), uncollected = take_count(&entry->uncollected), wrong_length = take_count(&entry->wrong_length);
     counts[DATA_RECEIVED] += passed_up + uncollected + wrong_length;
     counts[PASSED_UP] += passed_up;
@@ -169,12 +169,12 @@ static void count_handed_up(struct carry *carry, struct fast_member *entry, uint
     if (uncollected > 0) suspect_or_follow_aggregator(carry, aggregator);
 }
 
-static void count_fast_frames(struct tap_plane *tap) {
-    uint64_t overflowed = take_count(&tap->fast.host->overflowed), unfit = take_count(&tap->fast.host->unfit);
-    uint64_t passed = overflowed + unfit;
-    EACH_CONVERSATION(conversation, tap->carry) passed += count_passed(row_of(tap, conversation), conversation, tap->members);
+static void count_fast_frames_and_suspect(struct tap_plane *tap) {
+    uint64_t overflowed = take_count(&tap->fast.host->overflowed), unfit = take_count(&tap->fast.host->unfit), passed = overflowed + unfit;
+    EACH_CONVERSATION(conversation, tap->carry)
+        passed += count_passed(row_of(tap, conversation), conversation->fast.port, tap->members, &conversation->used);
     for (uint16_t i = 0; i < tap->ports->count; i++)
-        count_handed_up(tap->carry, &tap->fast.entries[i], tap->members[i].counts, tap->ports->links[i].view.aggregator);
+        count_handed_and_suspect(tap->carry, &tap->fast.entries[i], tap->members[i].counts, tap->ports->links[i].view.aggregator);
     tap->carry->counts[FROM_HOST] += passed;
     tap->carry->counts[OVERFLOWED] += overflowed;
     tap->carry->counts[UNFIT] += unfit;
@@ -200,14 +200,14 @@ static void wait_or_end(struct tap_plane *tap) {
 }
 
 /* Waits until all that cleared rows passed on is with the members, and counts it: their conversations are withdrawn from the kernel. */
-static void settle_cleared(struct tap_plane *tap) {
+static void wait_and_withdraw_or_end(struct tap_plane *tap) {
     bool waited = false;
     EACH_CONVERSATION(conversation, tap->carry) {
         struct fast_row *row = row_of(tap, conversation);
         if (conversation->fast.port == 0 || (uint32_t)word_of(row) != 0) continue;
         if (!waited) wait_or_end(tap);
         waited = true;
-        tap->carry->counts[FROM_HOST] += count_passed(row, conversation, tap->members);
+        tap->carry->counts[FROM_HOST] += count_passed(row, conversation->fast.port, tap->members, &conversation->used);
         conversation->fast.port = 0;
         tap->carry->counts[WITHDRAWN]++;
     }
@@ -228,7 +228,7 @@ static void resume_fast(struct tap_plane *tap) {
         if (conversation->port != 0 && member == (uint32_t)tap->ports->links[conversation->port - 1].index && may_pass(tap, conversation)) {
             conversation->fast.port = conversation->port;
         } else {
-            clear_row(row);
+            drop_row_member(row);
             any = true;
         }
     }
@@ -240,32 +240,32 @@ static void withdraw_moved(struct tap_plane *tap) {
     bool told = ask_ports(tap->core, tap->carry->active, tap->carry->port_of);
     EACH_CONVERSATION(conversation, tap->carry) {
         uint16_t port = conversation->fast.port, now = told ? tap->carry->port_of[number_in(tap->carry, conversation)] : 0;
-        if (port != 0 && (port != now || !is_fast(&tap->members[port - 1]))) clear_row(row_of(tap, conversation));
+        if (port != 0 && (port != now || !is_fast(&tap->members[port - 1]))) drop_row_member(row_of(tap, conversation));
     }
-    settle_cleared(tap);
+    wait_and_withdraw_or_end(tap);
 }
 
 /* The link of a port goes down, or its interface: before the library hears of it. */
 static void withdraw_port(struct tap_plane *tap, uint16_t port) {
     __atomic_store_n(&tap->fast.entries[port - 1].up_to, 0, __ATOMIC_SEQ_CST);
     EACH_CONVERSATION(conversation, tap->carry)
-        if (conversation->fast.port == port) clear_row(row_of(tap, conversation));
-    settle_cleared(tap);
+        if (conversation->fast.port == port) drop_row_member(row_of(tap, conversation));
+    wait_and_withdraw_or_end(tap);
     EACH_CONVERSATION(conversation, tap->carry)
         if (conversation->port == port && conversation->home != 0) conversation->fast.not_before = milliseconds() + DOWN_WAIT;
 }
 
 /* The TAP device has this queueing discipline now. One that may hold frames holds them behind the program that counts them, where nobody
  * sees them, and would not have what the kernel passes on: with it the daemon has all data. */
-static void follow_host_discipline(struct tap_plane *tap, const char *discipline) {
+static void withdraw_by_discipline(struct tap_plane *tap, const char *discipline) {
     struct fast_programs *own = &tap->fast;
     bool holds = !keeps_order(discipline) && strcmp(discipline, "pfifo_fast") != 0
         && strcmp(discipline, "noop") != 0; /* it has that one until it is up */
     if (!discipline[0] || holds == own->queue_holds) return;
     own->queue_holds = holds;
     EACH_CONVERSATION(conversation, tap->carry)
-        if (holds && conversation->fast.port != 0) clear_row(row_of(tap, conversation));
-    settle_cleared(tap);
+        if (holds && conversation->fast.port != 0) drop_row_member(row_of(tap, conversation));
+    wait_and_withdraw_or_end(tap);
     (void)say(tap->core->lines, LOG_WARNING | ABOUT_DATA, "carry %s: its queueing discipline is %s: its data %s", tap->settings->carry,
         discipline, holds ? "stays with the daemon, since that discipline may hold frames" : "may go by the kernel");
 }
@@ -283,10 +283,10 @@ static void set_collecting(struct tap_plane *tap) {
 }
 
 /* Lets the kernel pass on a conversation of which nothing waits here, if nothing is on its way here. */
-static void name_member(struct fast_row *row, struct conversation *conversation, int member) {
+static void name_member(struct fast_row *row, struct conversation *conversation, int index) {
     uint64_t none = 0;
     if (__atomic_load_n(&row->opaque, __ATOMIC_SEQ_CST) == 0
-        && __atomic_compare_exchange_n(&row->word, &none, (uint32_t)member, false, __ATOMIC_SEQ_CST, __ATOMIC_SEQ_CST))
+        && __atomic_compare_exchange_n(&row->word, &none, (uint32_t)index, false, __ATOMIC_SEQ_CST, __ATOMIC_SEQ_CST))
         conversation->fast.port = conversation->port;
 }
 
@@ -296,7 +296,7 @@ static void pass_on(struct tap_plane *tap) {
         struct fast_row *row = row_of(tap, conversation);
         if (!conversation->fast.touched) continue;
         conversation->fast.touched = false;
-        subtract_segments(row, conversation, take_count(&row->overflowed) + conversation->fast.taken);
+        subtract_segments(row, take_count(&row->overflowed) + conversation->fast.taken, &conversation->fast.suspected);
         conversation->fast.taken = 0;
         if (conversation->port != 0 && conversation->fast.port == 0
             && none_held(tap->core, &tap->held, number_in(tap->carry, conversation)) && may_pass(tap, conversation))
@@ -320,7 +320,7 @@ static void confirm_loss(struct fast_row *row, struct conversation *conversation
  * program counts just now. More of `left` was lost behind the program that counted it, by a queue without a carrier or without room, and
  * no read takes it off: with MOST_LEFT of it no frame would ever come here again. What is taken off too early makes it less than 0, and is
  * put back. It only tells how many may wait, so a frame too many is lost by the kernel, which counts it. The order rests on the rows. */
-static void note_read(struct tap_plane *tap, unsigned packets, bool drained) {
+static void subtract_read_and_lost(struct tap_plane *tap, unsigned packets, bool drained) {
     struct fast_programs *own = &tap->fast;
     if (tap->core->broken) return;
     int64_t left = __atomic_sub_fetch(&own->host->left, packets, __ATOMIC_SEQ_CST);
@@ -344,8 +344,8 @@ static bool suspect_row(const struct fast_row *row, struct conversation *convers
 static void withdraw_resting(struct tap_plane *tap) {
     EACH_CONVERSATION(conversation, tap->carry)
         if (conversation->fast.port != 0 && !conversation->used && tap->carry->time - conversation->last >= tap->settings->flight)
-            clear_row(row_of(tap, conversation));
-    settle_cleared(tap);
+            drop_row_member(row_of(tap, conversation));
+    wait_and_withdraw_or_end(tap);
 }
 
 static void pass_fast_tick(struct tap_plane *tap) {
@@ -353,11 +353,11 @@ static void pass_fast_tick(struct tap_plane *tap) {
     (void)read_tap_mac(tap->device, (uint8_t *)&tap->fast.host->mac);
     withdraw_moved(tap);
     open_host(tap, has_carrier(tap->device));
-    count_fast_frames(tap);
+    count_fast_frames_and_suspect(tap);
     if (tap->carry->probe.peer == MUTE) withdraw_resting(tap);
     EACH_CONVERSATION(conversation, tap->carry) {
         struct fast_row *row = row_of(tap, conversation);
-        subtract_segments(row, conversation, take_count(&row->overflowed));
+        subtract_segments(row, take_count(&row->overflowed), &conversation->fast.suspected);
         any = suspect_row(row, conversation) || any;
     }
     if (any) wait_or_end(tap);
@@ -369,7 +369,7 @@ static int check_fast(struct lines *lines, struct plane *plane UNUSED, const str
 
 const struct passing BY_KERNEL = {
     .check = check_fast, .start = start_fast, .end = end_fast, .set_up_device = give_no_queue, .run_programs = run_fast_programs,
-    .count = count_fast_frames, .withdraw = withdraw_moved, .withdraw_port = withdraw_port, .pass_on = pass_on, .note_read = note_read,
-    .open_host = open_host, .follow_discipline = follow_host_discipline, .set_collecting = set_collecting, .read_host = read_host,
-    .tick = pass_fast_tick, .resume = resume_fast, .steers = true,
+    .count = count_fast_frames_and_suspect, .withdraw = withdraw_moved, .withdraw_port = withdraw_port, .pass_on = pass_on,
+    .note_read = subtract_read_and_lost, .open_host = open_host, .follow_discipline = withdraw_by_discipline,
+    .set_collecting = set_collecting, .read_host = read_host_and_send, .tick = pass_fast_tick, .resume = resume_fast, .steers = true,
 };

@@ -14,7 +14,7 @@ bool is_told_distributing(struct core *core, uint16_t port, bool wanted) {
 
 /* Frees what is held on a port that does not distribute with a partner, and had no frame, for longer than frames can be on their way. A link that
  * fell silent distributes again, on defaults, 5 s after it stopped, and nobody answers its markers. */
-static void watch_silent_port(struct carry *carry, uint16_t port, uint64_t *since) {
+static void force_silent_port(struct carry *carry, uint16_t port, uint64_t *since) {
     const struct link *link = &carry->ports->links[port - 1];
     uint64_t held, freed;
     bool holds = (link->view.defaulted || is_told_distributing(carry->core, port, false))
@@ -41,8 +41,8 @@ static void free_conversation(struct carry *carry, struct conversation *conversa
 }
 
 /* A conversation that is held for long goes on: nothing of it was sent since. It waits for a peer that answers markers, which may have
- * been stopped for a while, and for a flight else. What is held on a port that does not distribute is for watch_silent_port. */
-static void watch_held(struct carry *carry, struct conversation *conversation, uint16_t number, const struct niw_assignment *state) {
+ * been stopped for a while, and for a flight else. What is held on a port that does not distribute is for force_silent_port. */
+static void force_or_rest_after_wait(struct carry *carry, struct conversation *conversation, uint16_t number, const struct niw_assignment *state) {
     bool held = is_held(state), answered = held && carry->probe.peer != MUTE && carry->settings->flight < UNANSWERED;
     if (conversation->since == 0) conversation->since = carry->time;
     if (carry->time - conversation->since < (answered ? UNANSWERED : carry->settings->flight)) return;
@@ -50,7 +50,7 @@ static void watch_held(struct carry *carry, struct conversation *conversation, u
     free_conversation(carry, conversation, number, held);
 }
 
-static void watch_conversation(struct carry *carry, struct held *held, uint16_t number, uint64_t *again) {
+static void drop_old_force_or_rest(struct carry *carry, struct held *held, uint16_t number, uint64_t *again) {
     struct conversation *conversation = &carry->conversations[number];
     struct niw_assignment state;
     uint64_t came, longest = carry->settings->flight + 1000u;
@@ -64,7 +64,7 @@ static void watch_conversation(struct carry *carry, struct held *held, uint16_t 
     if (state.what == NIW_CONVERSATION_FLUSHING && state.age > 0 && state.age % AGAIN_TICKS == 0)
         *again |= (uint64_t)1 << (state.port - 1);
     if (is_held(&state) || (away && !none_held(carry->core, held, number))) {
-        watch_held(carry, conversation, number, &state);
+        force_or_rest_after_wait(carry, conversation, number, &state);
         return;
     }
     conversation->since = 0;
@@ -76,11 +76,11 @@ static void watch_conversation(struct carry *carry, struct held *held, uint16_t 
 
 void pass_flight_tick(struct tap_plane *tap) {
     uint64_t again = 0;
-    for (uint16_t number = 0; !tap->core->broken && number < CONVERSATIONS; number++) watch_conversation(tap->carry, &tap->held, number, &again);
+    for (uint16_t number = 0; !tap->core->broken && number < CONVERSATIONS; number++) drop_old_force_or_rest(tap->carry, &tap->held, number, &again);
     if (tap->core->broken) return;
     pass_probe_tick(tap);
     for (uint16_t port = 1; port <= tap->ports->count; port++) {
-        watch_silent_port(tap->carry, port, &tap->silent_since[port - 1]);
-        if (again >> (port - 1) & 1 && send_marker_again(tap, port)) tap->carry->counts[MARKERS_AGAIN]++;
+        force_silent_port(tap->carry, port, &tap->silent_since[port - 1]);
+        if (again >> (port - 1) & 1 && withdraw_and_repeat_marker(tap, port)) tap->carry->counts[MARKERS_AGAIN]++;
     }
 }

@@ -117,7 +117,7 @@ void start_all_queues(struct tap_plane *tap) {
     if (fault != 0) stop(REFUSED, "queues=all: no program of an interface, which Linux has from 6.6 on", strerror(-fault));
     tap->chooser = load_program(tap->settings, "chooser", NULL, reason);
     if (tap->chooser < 0) stop(REFUSED, "queues=all: the kernel takes no program", reason);
-    tap->answer_timer = open_answer_timer(tap->process->epoll_file);
+    tap->answer_timer = open_answer_timer_or_stop(tap->process->epoll_file);
 }
 
 static void name_setting(enum setting setting, unsigned queue, char name[static NAME_OCTETS]) {
@@ -184,7 +184,7 @@ enum added { NOTHING_MORE, WHAT_CHANGES, WHAT_IS_LOST };
 
 /* Writes the file anew, from what is known, which is closed, and what is added of what the queues have now, before it is changed; answers whether
  * it did. */
-static bool rewrite_known(int folder, const struct link *link, FILE *file, enum added added) {
+static bool close_and_rewrite_kept(int folder, const struct link *link, FILE *file, enum added added) {
     char name[NAME_OCTETS], line[PROCESSORS_ROOM];
     FILE *next = begin_kept(folder, link, "queues");
     while (file && next && fscanf(file, READ_LINE, name, line) == 2) fprintf(next, "%s %s\n", name, line);
@@ -198,7 +198,7 @@ static bool rewrite_known(int folder, const struct link *link, FILE *file, enum 
 void move_kept_queues(struct process *process, struct link *link, const uint8_t *mac) {
     FILE *file = read_kept(process->folder, link, "queues");
     memcpy(link->mac, mac, sizeof link->mac);
-    if (file && !rewrite_known(process->folder, link, file, NOTHING_MORE))
+    if (file && !close_and_rewrite_kept(process->folder, link, file, NOTHING_MORE))
         warn_of_data(&process->lines, link, "nobody knows any more what its queues had", strerror(errno));
 }
 
@@ -213,7 +213,7 @@ static const char *prepare_for_all_queues(int folder, const struct link *link, c
     if (link->stacked) return STACKED;
     if (count == 0) return "/sys does not show its queues";
     if (!guard->in_order) return DISORDER;
-    if (!rewrite_known(folder, link, read_kept(folder, link, "queues"), WHAT_CHANGES)) return "what its queues have cannot be kept";
+    if (!close_and_rewrite_kept(folder, link, read_kept(folder, link, "queues"), WHAT_CHANGES)) return "what its queues have cannot be kept";
     if (!change_or_keep(folder, link, false, NULL)) return "RPS or XPS of its queues cannot be set";
     return NULL;
 }
@@ -360,7 +360,7 @@ static unsigned read_channels(int index, struct ethtool_channels *channels) {
 static void reduce_to_one_queue(struct process *process, const struct link *link) {
     struct ethtool_channels wanted;
     if (read_channels(link->index, &wanted) <= 1) return;
-    if (!rewrite_known(process->folder, link, read_kept(process->folder, link, "queues"), WHAT_IS_LOST))
+    if (!close_and_rewrite_kept(process->folder, link, read_kept(process->folder, link, "queues"), WHAT_IS_LOST))
         warn_of_data(&process->lines, link, "nobody knows what its queues had", strerror(errno));
     wanted.cmd = ETHTOOL_SCHANNELS;
     wanted.rx_count = wanted.tx_count = wanted.combined_count == 0;
@@ -388,7 +388,7 @@ static bool is_unqueued(const struct link *link) {
 
 /* Sees whether what is sent at an interface keeps its order in its queueing discipline. Frames of several segments have to go through
  * that, since it segments them for an interface that cannot: so they get one that does. */
-void look_at_discipline(struct lines *lines, const struct plane *plane, struct link *link, struct guard *guard) {
+void give_fifos_and_note_order(struct lines *lines, const struct plane *plane, struct link *link, struct guard *guard) {
     bool given = false;
     (void)read_discipline(link->index, link->discipline);
     if (plane->wants_fifo && !is_unqueued(link) && strcmp(link->discipline, "noqueue") != 0)
@@ -450,7 +450,7 @@ static unsigned gro_allowed(uint32_t answer_after, int index, const struct guard
 }
 
 bool set_one_queue(struct tap_plane *tap, struct link *link, struct guard *guard, bool again) {
-    look_at_discipline(tap->core->lines, tap->plane, link, guard);
+    give_fifos_and_note_order(tap->core->lines, tap->plane, link, guard);
     if (!again) reduce_to_one_queue(tap->process, link);
     return true;
 }
@@ -463,7 +463,7 @@ bool set_all_queues(struct tap_plane *tap, struct link *link, struct guard *guar
         *before = now;
     else if (may_spread(tap->process->folder, link))
         (void)restore_channels(link->index, before);
-    look_at_discipline(tap->core->lines, tap->plane, link, guard);
+    give_fifos_and_note_order(tap->core->lines, tap->plane, link, guard);
     if (is_unqueued(link)) return false;
     spread_over_queues(tap->process, tap->chooser, link, guard);
     if (guard->spread && has_channels(link->index, before)) *before = (struct ethtool_channels){0};
@@ -472,7 +472,7 @@ bool set_all_queues(struct tap_plane *tap, struct link *link, struct guard *guar
     return true;
 }
 
-static void run_programs(struct tap_plane *tap, const struct link *link, struct guard *guard) {
+static void run_programs_and_set_gro(struct tap_plane *tap, const struct link *link, struct guard *guard) {
     tap->plane->passing->run_programs(tap, link, guard);
     if (guard->before.joins != 0) set_gro_and_lro(link->index, guard->before.joins & gro_allowed(tap->settings->answer_after, link->index, guard));
     guard->channels = read_queue_counts(link->index);
@@ -480,7 +480,7 @@ static void run_programs(struct tap_plane *tap, const struct link *link, struct 
 
 static void stop_programs(struct store *store, struct fast_programs *fast, const struct link *link, struct guard *guard) {
     if (guard->opened >= 0) detach_stored(store, "guard", link->index, guard->opened);
-    if (guard->fast) close_fast_receiver(fast, link);
+    if (guard->fast) clear_fast_place(fast, link);
     if (guard->classifier != NO_CLASSIFIER) drop_classifier(link->index);
     guard->opened = -1;
     guard->classifier = NO_CLASSIFIER;
@@ -491,7 +491,7 @@ static void stop_programs(struct store *store, struct fast_programs *fast, const
 void reopen_guard(struct tap_plane *tap, struct link *link, struct guard *guard) {
     stop_programs(&tap->process->store, &tap->fast, link, guard);
     (void)tap->plane->queueing->set(tap, link, guard, true);
-    run_programs(tap, link, guard);
+    run_programs_and_set_gro(tap, link, guard);
 }
 
 /* Prepares an interface. What it cannot be kept from has a line. */
@@ -506,7 +506,7 @@ void open_guard(struct tap_plane *tap, struct link *link, struct guard *guard) {
     merge_kept_file(tap->core->lines, tap->process->folder, link, before);
     bool has_queues = tap->plane->queueing->set(tap, link, guard, false);
     if (gathers && !guard->spread && !set_rps_to_one(link)) warn_of_data(tap->core->lines, link, SPREADS, NULL);
-    run_programs(tap, link, guard);
+    run_programs_and_set_gro(tap, link, guard);
     if ((read_gro_and_lro(link->index).on & ~gro_allowed(tap->settings->answer_after, link->index, guard)) != 0)
         warn_of_data(tap->core->lines, link, "GRO or LRO stays on, and markers may overtake data", NULL);
     if (link->stacked && !tap->plane->passing->steers) warn_of_data(tap->core->lines, link, STACKED, "markers may overtake data");

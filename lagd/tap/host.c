@@ -105,7 +105,7 @@ static unsigned accept_in_turn(struct tap_plane *tap, uint8_t *packet, size_t le
 }
 
 /* Takes one packet of the TAP device; answers how many frames it has, or 0 where there is none. */
-static unsigned read_next(struct tap_plane *tap, uint8_t *packet) {
+static unsigned read_and_send_next(struct tap_plane *tap, uint8_t *packet) {
     if (tap->core->broken) return 0;
     ssize_t length = read(tap->host.tap, packet, packet_room());
     if (length < 0 && (errno == EBADFD || errno == EIO || errno == ENODEV)) lose_device(tap->plane);
@@ -116,10 +116,10 @@ static unsigned read_next(struct tap_plane *tap, uint8_t *packet) {
 }
 
 /* Takes the packets that wait in the TAP device, some at most, and then of those that wait to be cut. */
-void read_host(struct tap_plane *tap) {
+void read_host_and_send(struct tap_plane *tap) {
     unsigned got = 0, left = BATCH;
     for (; left > 0; got++) {
-        unsigned frames = read_next(tap, room_at(tap->host.packets, got));
+        unsigned frames = read_and_send_next(tap, room_at(tap->host.packets, got));
         if (frames == 0) break;
         tap->carry->taken += frames;
         left -= frames < left ? frames : left;
@@ -133,23 +133,23 @@ void read_host(struct tap_plane *tap) {
 }
 
 /* Hands a packet up, which lies in parts; answers whether the device took it. */
-bool give_host(const struct core *core, int tap, const struct iovec *parts, unsigned count, size_t length) {
-    return !core->broken && writev(tap, parts, (int)count) == (ssize_t)length;
+bool give_host(const struct core *core, int fd, const struct iovec *parts, unsigned count, size_t length) {
+    return !core->broken && writev(fd, parts, (int)count) == (ssize_t)length;
 }
 
 /* Serves what is ready: a member, or the TAP device, whose frames come after what was released. */
-void serve_data(struct tap_plane *tap, uint32_t tag) {
+void serve_settle_and_send(struct tap_plane *tap, uint32_t tag) {
     if (tap->core->broken) return;
-    if (tag == RESPONSES) serve_answers(tap);
+    if (tag == RESPONSES) serve_data_and_answers(tap);
     if (tag >= MEMBERS && tag < RESPONSES) {
-        receive_data(tap, &tap->ports->links[tag - MEMBERS]);
+        receive_data_and_changes(tap, &tap->ports->links[tag - MEMBERS]);
         if (tap->plane->changed) send_due(tap->protocol);
     }
     settle_carry(tap->plane);
-    if (tag == HOST) read_host(tap);
+    if (tag == HOST) read_host_and_send(tap);
 }
 
-void lose_data(struct plane *plane, const struct link *link) {
+void withdraw_and_drop_answers(struct plane *plane, const struct link *link) {
     struct tap_plane *tap = plane->tap;
     CALL(plane->passing->withdraw_port, tap, link->settings.number);
     tap->answers[link - tap->ports->links].count = 0; /* whoever asked there asks again */

@@ -90,8 +90,8 @@ static bool set_up_data(int fd, int index, const struct guard *guard) {
 
 /* Opens a socket of a member; answers it, or -errno. One for all protocols has markers before the filters and bridges of an administrator,
  * which may take frames away there. Where the kernel hands up what comes, nothing comes by that for data. */
-static int open_socket(struct process *process, int device, const struct link *link, const struct guard *guard, enum socket_kind kind) {
-    int index = kind == MARKERS ? device : link->index;
+static int open_socket(struct process *process, int device_index, const struct link *link, const struct guard *guard, enum socket_kind kind) {
+    int index = kind == MARKERS ? device_index : link->index;
     struct sockaddr_ll address = {.sll_family = AF_PACKET, .sll_protocol = htons(kind == DIRECT ? ETH_P_SLOW : ETH_P_ALL), .sll_ifindex = index};
     int fd = packet_socket(&process->store, process->inherited, SOCKET_NAMES[kind], link->index, index, SOCK_RAW);
     bool only_sends = kind == DATA && guard->fast, filtered;
@@ -125,7 +125,7 @@ static void release_member(struct process *process, struct fast_programs *fast, 
 }
 
 /* Opens the sockets of a member whose programs run; answers 0, or -errno, and then it is no member any more. */
-static int open_all_sockets(struct tap_plane *tap, const struct link *link, struct member *member) {
+static int open_sockets_or_release(struct tap_plane *tap, const struct link *link, struct member *member) {
     for (enum socket_kind kind = DATA; kind < (member->guard.fast ? SOCKETS : MARKERS); kind++) {
         int opened = member->sockets[kind] = open_socket(tap->process, tap->device->index, link, &member->guard, kind);
         if (opened >= 0) continue;
@@ -142,7 +142,7 @@ static int open_member(struct plane *plane, struct link *link) {
     if (!filter_markers(link->socket, false)) return last_fault();
     open_guard(tap, link, &member->guard);
     member->has_marker = false;
-    return open_all_sockets(tap, link, member);
+    return open_sockets_or_release(tap, link, member);
 }
 
 /* Frames that came while the socket was full. */
@@ -161,7 +161,7 @@ static bool renew_member(struct tap_plane *tap, struct link *link) {
     close_all_sockets(&tap->process->store, link, member);
     reopen_guard(tap, link, &member->guard);
     tap->plane->changed = true;
-    return open_all_sockets(tap, link, member) == 0;
+    return open_sockets_or_release(tap, link, member) == 0;
 }
 
 static bool tell_and_renew(struct tap_plane *tap, struct link *link) {
@@ -182,11 +182,11 @@ static bool renew_for_discipline(struct plane *plane, struct link *link) {
     struct member *member = member_of(tap, link);
     if (!is_open(member)) return true;
     if (plane->renews) return renew_member(tap, link);
-    look_at_discipline(tap->core->lines, plane, link, &member->guard);
+    give_fifos_and_note_order(tap->core->lines, plane, link, &member->guard);
     return set_bypass(member->sockets[DATA], &member->guard);
 }
 
-void follow_address(struct plane *plane, struct link *link, const uint8_t *mac) {
+void set_mac_and_move_kept(struct plane *plane, struct link *link, const uint8_t *mac) {
     if (memcmp(link->mac, mac, sizeof link->mac) == 0) return;
     CALL(plane->carrying->move, plane, link, mac);
     memcpy(link->mac, mac, sizeof link->mac);
@@ -236,7 +236,7 @@ static void close_member(struct plane *plane, const struct link *link) {
     struct tap_plane *tap = plane->tap;
     struct member *member = member_of(tap, link);
     if (!is_open(member)) return;
-    lose_data(plane, link);
+    withdraw_and_drop_answers(plane, link);
     count_socket_losses(member);
     release_member(tap->process, &tap->fast, link, member);
 }
@@ -330,25 +330,25 @@ static bool send_by_one_queue(struct tap_plane *tap, struct link *link, const ui
 
 /* Sends a marker behind the data of its port, by the same socket: by another one, of another priority, it would overtake them. What the
  * kernel passes on and no longer may is taken back before. */
-static bool send_marker(struct tap_plane *tap, struct link *link, const uint8_t *marker, bool again) {
+static bool flush_withdraw_and_send(struct tap_plane *tap, struct link *link, const uint8_t *marker, bool again) {
     flush_member(&tap->protocol->changes, member_of(tap, link));
     CALL(tap->plane->passing->withdraw, tap);
     return tap->plane->queueing->send_marker(tap, link, marker, again);
 }
 
-void send_new_marker(struct plane *plane, struct link *link, const uint8_t *frame) {
+void withdraw_and_send_new_marker(struct plane *plane, struct link *link, const uint8_t *frame) {
     struct tap_plane *tap = plane->tap;
     struct member *member = member_of(tap, link);
     memcpy(member->marker, frame, sizeof member->marker);
     member->has_marker = true;
     tap->carry->counts[MARKERS_SENT]++;
-    (void)send_marker(tap, link, member->marker, false);
+    (void)flush_withdraw_and_send(tap, link, member->marker, false);
 }
 
 /* Sends the last marker of a port again: a cable may repeat control frames, and may lose one. Answers whether it went. */
-bool send_marker_again(struct tap_plane *tap, uint16_t port) {
+bool withdraw_and_repeat_marker(struct tap_plane *tap, uint16_t port) {
     const struct member *member = &tap->members[port - 1];
-    return member->has_marker && send_marker(tap, &tap->ports->links[port - 1], member->marker, true);
+    return member->has_marker && flush_withdraw_and_send(tap, &tap->ports->links[port - 1], member->marker, true);
 }
 
 static void accept_only_response(struct tap_plane *tap, struct link *link, const struct arrival *arrival, uint32_t id UNUSED) {
@@ -375,7 +375,7 @@ static void accept_data(struct tap_plane *tap, const struct link *link, uint8_t 
     size_t shown = length - head_octets() < LONGEST_SHOWN ? length - head_octets() : LONGEST_SHOWN;
     struct niw_received received = niw_receive(&tap->core->system, link->settings.number, frame, shown, response, sizeof response);
     if (is_done(tap->core, received.status, "niw_receive") && received.what == NIW_RECEIVED_HANDED_UP)
-        hand_up_frame(tap, received.number, packet, length);
+        hand_up_or_suspect(tap, received.number, packet, length);
     else
         member_of(tap, link)->counts[UNCOLLECTED]++;
 }
@@ -413,7 +413,7 @@ static void accept_packet(struct tap_plane *tap, struct link *link, struct mmsgh
 
 /* Takes the packets that wait in a socket of a member, some at most. What the kernel tells of links comes before them: what was sent after
  * a link went is not handed up before it. */
-static void receive_packets(struct tap_plane *tap, struct link *link, enum socket_kind kind) {
+static void receive_packets_and_changes(struct tap_plane *tap, struct link *link, enum socket_kind kind) {
     struct member *member = member_of(tap, link);
     struct mmsghdr messages[BATCH];
     struct iovec parts[BATCH];
@@ -445,15 +445,15 @@ static void drain_member(struct plane *plane, struct link *link) {
     bool more = is_open(member_of(tap, link));
     for (unsigned turn = 0; more && turn < MOST_DRAINED && !tap->core->broken; turn++) {
         tap->carry->more_waits = false;
-        receive_data(tap, link);
+        receive_data_and_changes(tap, link);
         more = tap->carry->more_waits;
     }
 }
 
-void receive_data(struct tap_plane *tap, struct link *link) {
+void receive_data_and_changes(struct tap_plane *tap, struct link *link) {
     const struct member *member = member_of(tap, link);
     for (enum socket_kind kind = member->sockets[MARKERS] < 0 ? DATA : MARKERS; kind < SOCKETS; kind++)
-        if (member->sockets[kind] >= 0) receive_packets(tap, link, kind);
+        if (member->sockets[kind] >= 0) receive_packets_and_changes(tap, link, kind);
 }
 
 static int check_tap(struct lines *lines, struct plane *plane UNUSED, const struct options *options) {
@@ -463,13 +463,13 @@ static int check_tap(struct lines *lines, struct plane *plane UNUSED, const stru
 const struct carrying TAP_DEVICE = {
     .open = open_tap_plane, .end = end_tap_plane, .lose_device = lose_device, .keep_device = keep_tap, .leave = leave_tap,
     .give_carrier = give_tap_carrier, .settle_mtu = settle_tap_mtu, .add = open_member, .remove = close_member, .renew = renew_for_discipline,
-    .move = move_member, .follow_mtu = follow_member_mtu, .follow_speed = follow_speed, .can_empty = can_empty, .empty = empty_port,
-    .drain = drain_member, .lose = lose_data, .forget = reset_member, .send_marker = send_new_marker, .note_response = note_response,
-    .settle = settle_frames, .tick = pass_tick_of_frames, .keeps_aggregator = heard_peer_lately, .frames_heard = frames_handed_up,
-    .tell_host = tell_speed_and_carrier, .resume = resume_conversations, .go_on = settle_carry, .member_of = fast_member_of,
-    .end_resuming = release_former_members, .frames_waiting = count_frames_waiting, .check = check_tap, .show = show_carry,
-    .show_member = show_member, .show_markers = show_markers, .show_waiting = show_frames_waiting, .end_count = CARRY_COUNTS,
-    .member_counts = MEMBER_COUNTS, .keeps_members = true, .administers = true, .nameless = "",
+    .move = move_member, .follow_mtu = follow_member_mtu, .follow_speed = follow_speed, .can_empty = can_empty, .empty = empty_port_and_send,
+    .drain = drain_member, .lose = withdraw_and_drop_answers, .forget = reset_member, .send_marker = withdraw_and_send_new_marker,
+    .note_response = note_response, .settle = choose_move_and_send, .tick = pass_tick_of_frames, .keeps_aggregator = heard_peer_lately,
+    .frames_heard = frames_handed_up, .tell_host = set_speed_and_carrier, .resume = resume_conversations, .go_on = settle_carry,
+    .member_of = fast_member_of, .end_resuming = release_former_members, .frames_waiting = count_frames_waiting, .check = check_tap,
+    .show = show_carry, .show_member = show_member, .show_markers = show_markers, .show_waiting = show_frames_waiting,
+    .end_count = CARRY_COUNTS, .member_counts = MEMBER_COUNTS, .keeps_members = true, .administers = true, .nameless = "",
 };
 
 const struct queueing ONE_QUEUE = {

@@ -59,7 +59,7 @@ bool can_empty(const struct plane *plane, const struct link *link) {
     return others > 0 && carry->probe.peer == ANSWERS && carry->active != 0 && link->view.aggregator == carry->active;
 }
 
-bool empty_port(struct plane *plane, const struct link *link) {
+bool empty_port_and_send(struct plane *plane, const struct link *link) {
     struct carry *carry = plane->carry;
     uint16_t port = link->settings.number;
     unsigned loads[NIW_MOST_PORTS + 1] = {0};
@@ -79,7 +79,7 @@ bool empty_port(struct plane *plane, const struct link *link) {
 }
 
 /* Moves what has to move, once a tick, towards a peer that answers markers: one marker of a port tells of all that leave it. */
-void balance(struct carry *carry) {
+void balance_and_send(struct carry *carry) {
     EACH_LINK_AS_IS(link, carry->ports)
         if (link->emptying) return;
     if (carry->active_count < 2 || carry->probe.peer != ANSWERS || !none_moves(carry)

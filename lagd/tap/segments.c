@@ -149,7 +149,7 @@ static bool continues_stream(const struct gro *own, const uint8_t *packet, const
 }
 
 /* Hands up as one what waits; answers whether the device took it. */
-static bool give_all(const struct core *core, int tap, const struct gro *own) {
+static bool give_all(const struct core *core, int fd, const struct gro *own) {
     const struct tcp_packet *all = &own->all;
     const uint8_t *first = own->packets[0].iov_base, *last = own->packets[own->count - 1].iov_base;
     bool six = has_ipv6(first, all);
@@ -168,7 +168,7 @@ static bool give_all(const struct core *core, int tap, const struct gro *own) {
         uint8_t *packet = own->packets[i].iov_base;
         parts[1 + i] = (struct iovec){packet + all->payload, own->packets[i].iov_len - all->payload};
     }
-    return give_host(core, tap, parts, 1 + own->count, all->length);
+    return give_host(core, fd, parts, 1 + own->count, all->length);
 }
 
 void flush_host(struct tap_plane *tap) {

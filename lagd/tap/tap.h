@@ -162,11 +162,11 @@ struct tap_plane {
 
 /* data.c */
 uint64_t frames_handed_up(struct plane *plane, bool counts_now);
-void tell_speed_and_carrier(struct plane *plane);
-void settle_frames(struct plane *plane);
+void set_speed_and_carrier(struct plane *plane);
+void choose_move_and_send(struct plane *plane);
 void pass_tick_of_frames(struct plane *plane);
 void accept_from_host(struct tap_plane *tap, uint8_t *packet, size_t length);
-void hand_up_frame(struct tap_plane *tap, uint32_t aggregator, uint8_t *packet, size_t length);
+void hand_up_or_suspect(struct tap_plane *tap, uint32_t aggregator, uint8_t *packet, size_t length);
 
 /* probe.c */
 void pass_probe_tick(struct tap_plane *tap);
@@ -184,8 +184,8 @@ bool send_by_queues(struct tap_plane *tap, struct link *link, const uint8_t *mar
 /* answers.c: responses to markers that wait */
 bool answer_at_once(struct tap_plane *tap, struct link *link, const uint8_t *response);
 bool answer_later(struct tap_plane *tap, struct link *link, const uint8_t *response);
-int open_answer_timer(int epoll_file);
-void serve_answers(struct tap_plane *tap);
+int open_answer_timer_or_stop(int epoll_file);
+void serve_data_and_answers(struct tap_plane *tap);
 void note_unread(struct answers *answers, unsigned packets, bool drained);
 
 /* kept.c */
@@ -199,13 +199,13 @@ void recall_settings(int folder, const struct link *link, struct kept *kept);
 
 /* host.c */
 void lose_device(struct plane *plane);
-void serve_data(struct tap_plane *tap, uint32_t tag);
-void lose_data(struct plane *plane, const struct link *link);
+void serve_settle_and_send(struct tap_plane *tap, uint32_t tag);
+void withdraw_and_drop_answers(struct plane *plane, const struct link *link);
 void open_tap_plane(struct plane *plane);
 void end_tap_plane(struct plane *plane);
-void read_host(struct tap_plane *tap);
+void read_host_and_send(struct tap_plane *tap);
 bool is_cutting(const struct core *core, const struct host *host);
-bool give_host(const struct core *core, int tap, const struct iovec *parts, unsigned count, size_t length);
+bool give_host(const struct core *core, int fd, const struct iovec *parts, unsigned count, size_t length);
 
 /* traffic.c: queueing disciplines and classifiers of members */
 bool keeps_order(const char *discipline);
@@ -231,7 +231,7 @@ void keep_from_stack(struct tap_plane *tap, const struct link *link, struct guar
 void run_fast_programs(struct tap_plane *tap, const struct link *link, struct guard *guard);
 bool set_one_queue(struct tap_plane *tap, struct link *link, struct guard *guard, bool again);
 bool set_all_queues(struct tap_plane *tap, struct link *link, struct guard *guard, bool again);
-void look_at_discipline(struct lines *lines, const struct plane *plane, struct link *link, struct guard *guard);
+void give_fifos_and_note_order(struct lines *lines, const struct plane *plane, struct link *link, struct guard *guard);
 void reopen_guard(struct tap_plane *tap, struct link *link, struct guard *guard);
 void close_guard(struct process *process, struct fast_programs *fast, const struct link *link, struct guard *guard);
 void put_back_former(struct process *process, struct fast_programs *fast, const struct inherited_link *was);
@@ -239,7 +239,7 @@ void put_back_former(struct process *process, struct fast_programs *fast, const 
 /* members.c */
 extern const struct carrying TAP_DEVICE;
 extern const struct queueing ONE_QUEUE, ALL_QUEUES;
-void send_new_marker(struct plane *plane, struct link *link, const uint8_t *frame);
+void withdraw_and_send_new_marker(struct plane *plane, struct link *link, const uint8_t *frame);
 bool give_marker(struct core *core, const struct member *member, struct link *link, const uint8_t *marker, struct msghdr *message);
 unsigned member_queues(const struct member *member);
 void put_back_members(int status, void *given);
@@ -247,8 +247,8 @@ bool is_fast(const struct member *member);
 uint32_t sum_speeds(const struct carry *carry, const struct member *members);
 void put_data(struct tap_plane *tap, uint16_t port, uint16_t number, uint8_t *packet, size_t length);
 void flush_data(struct tap_plane *tap);
-void receive_data(struct tap_plane *tap, struct link *link);
-bool send_marker_again(struct tap_plane *tap, uint16_t port);
+void receive_data_and_changes(struct tap_plane *tap, struct link *link);
+bool withdraw_and_repeat_marker(struct tap_plane *tap, uint16_t port);
 void count_full_sockets(struct member *members, uint16_t count);
 
 /* hash.c */
@@ -289,7 +289,7 @@ int load_program(const struct settings *settings, const char *name, const struct
 /* fast.c */
 extern const struct passing BY_KERNEL;
 int open_fast_receiver(struct store *store, struct fast_programs *own, const struct ports *ports, const struct link *wanted);
-void close_fast_receiver(struct fast_programs *own, const struct link *link);
+void clear_fast_place(struct fast_programs *own, const struct link *link);
 int fast_member_of(const struct plane *plane, uint16_t number);
 
 /* held.c */

@@ -251,5 +251,6 @@ const struct carrying TEAM_DEVICE = {
     .add = open_team_port, .remove = close_team_port, .see_port = is_still_team_port, .settle = settle_team, .tick = pass_tick_of_team,
     .keeps_aggregator = heard_peer_lately, .frames_heard = team_frames_received, .resume = resume_conversations, .go_on = choose_ports_and_tell_host,
     .member_of = bucket_member_of, .end_resuming = release_former_members, .check = unshare_and_check_team, .show = show_carry,
-    .show_member = show_member, .show_waiting = show_waiting_buckets, .first_count = MOVES, .end_count = WOKEN + 1, .administers = true, .nameless = "",
+    .show_member = show_member, .show_waiting = show_waiting_buckets, .first_count = MOVES, .end_count = WOKEN + 1, .administers = true,
+    .nameless = "",
 };

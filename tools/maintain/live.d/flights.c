@@ -31,7 +31,7 @@ ANSWERS(uint64_t milliseconds, now, void)
 ANSWERS(bool is_fast, is_fast_member, const struct member *member)
 ANSWERS(unsigned count_sending_queues, entries, int index)
 ANSWERS(bool await_input, fd >= 0 && tag == RESPONSES, int epoll_file, int fd, uint32_t tag)
-NOTHING(receive_data, struct tap_plane *tap, struct link *link)
+NOTHING(receive_data_and_changes, struct tap_plane *tap, struct link *link)
 void send_frame(struct core *core, bool *suspected, struct link *link, const uint8_t *frame) {
     answered++;
 }
@@ -115,30 +115,30 @@ static void try_many(void) {
 static void try_answers(void) {
     uint8_t frame[NIW_FRAME] = {0};
     unsigned taken = 0;
-    lagd->tap.answer_timer = open_answer_timer(lagd->process.epoll_file);
+    lagd->tap.answer_timer = open_answer_timer_or_stop(lagd->process.epoll_file);
     while (taken < 100 && answer_later(&lagd->tap, &lagd->ports.links[PORT - 1], frame)) taken++;
     check(taken == 64, __func__, "sixty-four responses wait, and no more");
-    serve_answers(&lagd->tap);
+    serve_data_and_answers(&lagd->tap);
     check(answered == 0, __func__, "none goes before its time");
     now += AFTER + 1;
-    serve_answers(&lagd->tap);
+    serve_data_and_answers(&lagd->tap);
     check(answered == 0, __func__, "nor while its socket may have what came before");
     note_unread(&lagd->tap.answers[PORT - 1], 64, false);
-    serve_answers(&lagd->tap);
+    serve_data_and_answers(&lagd->tap);
     check(answered == 0, __func__, "or was not read to its end");
     note_unread(&lagd->tap.answers[PORT - 1], 3, true);
-    serve_answers(&lagd->tap);
+    serve_data_and_answers(&lagd->tap);
     check(answered == 64, __func__, "then all go");
     check(answer_later(&lagd->tap, &lagd->ports.links[PORT - 1], frame), __func__, "there is room again");
     lagd->tap.answers[PORT - 1].count = 0;
     now += 10 * AFTER;
     note_unread(&lagd->tap.answers[PORT - 1], 0, true);
-    serve_answers(&lagd->tap);
+    serve_data_and_answers(&lagd->tap);
     check(answered == 64, __func__, "with the link down none goes");
     check(answer_later(&lagd->tap, &lagd->ports.links[PORT - 1], frame), __func__, "there is room then");
     now += AFTER + 1;
     for (unsigned read = 0; read < 32768; read += 64) note_unread(&lagd->tap.answers[PORT - 1], 64, false);
-    serve_answers(&lagd->tap);
+    serve_data_and_answers(&lagd->tap);
     check(answered == 65, __func__, "a flood of data does not hold a response for ever");
 }
 

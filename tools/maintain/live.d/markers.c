@@ -42,11 +42,11 @@ const char *mac_text(const uint8_t *mac, char room[static 32]) {
     return room[0] = 0, room;
 }
 
-void send_new_marker(struct plane *plane, struct link *link, const uint8_t *frame) {
+void withdraw_and_send_new_marker(struct plane *plane, struct link *link, const uint8_t *frame) {
     sent++;
 }
 
-bool send_marker_again(struct tap_plane *tap, uint16_t port) {
+bool withdraw_and_repeat_marker(struct tap_plane *tap, uint16_t port) {
     return again++, true;
 }
 

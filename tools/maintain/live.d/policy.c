@@ -173,13 +173,13 @@ void flush_data(struct tap_plane *tap) {
     end->out_count = 0;
     free_left(&tap->held);
 }
-void send_new_marker(struct plane *plane, struct link *link, const uint8_t *frame) {
+void withdraw_and_send_new_marker(struct plane *plane, struct link *link, const uint8_t *frame) {
     struct end *end = end_of(plane);
     flush_data(plane->tap);
     memcpy(end->marker[link->settings.number], frame, NIW_FRAME);
     put_slow(end, link->settings.number, end->marker[link->settings.number]);
 }
-bool send_marker_again(struct tap_plane *tap, uint16_t port) {
+bool withdraw_and_repeat_marker(struct tap_plane *tap, uint16_t port) {
     struct end *end = end_of(tap);
     flush_data(tap);
     put_slow(end, port, end->marker[port]);
@@ -240,7 +240,7 @@ void send_due(struct protocol *protocol) {
             struct niw_sent due = niw_transmit(&protocol->core->system, port, frame, sizeof frame);
             if (!is_done(protocol->core, due.status, "niw_transmit") || !due.is) break;
             if (due.what == NIW_SENT_MARKER)
-                send_new_marker(protocol->plane, &protocol->ports->links[port - 1], frame);
+                withdraw_and_send_new_marker(protocol->plane, &protocol->ports->links[port - 1], frame);
             else
                 put_slow(end_of(protocol), port, frame);
         }
@@ -279,8 +279,8 @@ NOTHING(set_speed, struct device *device, uint32_t megabits)
 ANSWERS(uint16_t count_links, PORTS, const struct ports *ports)
 NOTHING(write_report_and_tell_watchers, struct core *core, const struct control *control, const struct link *link)
 /* The plane: frames come here alone, and members have one queue. */
-static const struct carrying FRAMES = {.settle = settle_frames, .tick = pass_tick_of_frames, .keeps_aggregator = heard_peer_lately,
-    .frames_heard = frames_handed_up, .tell_host = tell_speed_and_carrier, .go_on = settle_carry,
+static const struct carrying FRAMES = {.settle = choose_move_and_send, .tick = pass_tick_of_frames, .keeps_aggregator = heard_peer_lately,
+    .frames_heard = frames_handed_up, .tell_host = set_speed_and_carrier, .go_on = settle_carry,
     .note_response = note_response};
 static const struct passing BY_DAEMON = {0};
 static const struct queueing OF_ONE_QUEUE = {.accept_response = accept_any, .answer = answer, .markers_at_once = 1};
@@ -376,7 +376,7 @@ static void take(struct end *end, uint16_t port, uint8_t *frame, size_t length) 
     } else {
         received = niw_receive(&lagd->core.system, port, frame, length, response, sizeof response);
         if (is_done(&lagd->core, received.status, "niw_receive") && received.what == NIW_RECEIVED_HANDED_UP)
-            hand_up_frame(&lagd->tap, received.number, frame, length);
+            hand_up_or_suspect(&lagd->tap, received.number, frame, length);
     }
     settle_carry(&lagd->plane);
 }
@@ -441,7 +441,7 @@ static void begin_to_hold(struct end *end, uint16_t port) {
 /* The ports that are emptied are held then. */
 static void end_emptying(struct end *end) {
     for (uint16_t port = 1; port <= PORTS; port++)
-        if (end->lagd.ports.links[port - 1].emptying && empty_port(&end->lagd.plane, &end->lagd.ports.links[port - 1])) hold(end, port, true);
+        if (end->lagd.ports.links[port - 1].emptying && empty_port_and_send(&end->lagd.plane, &end->lagd.ports.links[port - 1])) hold(end, port, true);
 }
 
 /* Some ticks passed, and are made up, as lagd/main.c does. */
