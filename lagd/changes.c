@@ -100,7 +100,7 @@ static void follow_link(struct protocol *protocol, struct link *link, const stru
         set_link_send_and_tell(protocol, link, false);
     }
     if ((lost && !spared) || !carrier) set_waiting(link, false);
-    bool up = carrier && !protocol->halt.silent && choose_aggregator_and_whether_restored(protocol, link);
+    bool up = carrier && !protocol->halt.silent && choose_aggregator_and_set_waiting(protocol, link);
     if (up && !link->up) fit_queue(protocol->plane, link);
     if (up) note_speed_and_set_key(protocol, link);
     if (up) CALL(protocol->plane->carrying->follow_speed, protocol->plane, link);

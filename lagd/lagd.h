@@ -417,7 +417,7 @@ const char *holder_of(const struct ports *ports, int index, char room[static HOL
 
 /* links.c */
 bool take_up_interface(struct process *process, struct plane *plane, struct link *link, int index);
-void release_interface(struct plane *plane, struct store *store, struct link *link);
+void withdraw_and_release_interface_or_end(struct plane *plane, struct store *store, struct link *link);
 int open_in_sys(int index, const char *what, int flags);
 bool read_text(int fd, char *text, size_t room);
 bool read_carrier_changes(struct link *link);
@@ -451,10 +451,10 @@ void tell_markers(struct lines *lines, uint64_t ticks, struct link *link);
 #define MARKERS_AT_ONCE 16 /* how many come in the place of one, of a partner whose members have several queues, where ours have */
 
 /* twins.c */
-void look_for_twins(struct lines *lines, struct ports *ports);
+void note_twins_and_tell_new(struct lines *lines, struct ports *ports);
 
 /* restore.c */
-bool choose_aggregator_and_whether_restored(struct protocol *protocol, struct link *link);
+bool choose_aggregator_and_set_waiting(struct protocol *protocol, struct link *link);
 void set_waiting(struct link *link, bool waits);
 bool choose_aggregator_and_whether_waited(struct protocol *protocol, const struct link *link);
 void note_carrier(const struct settings *settings, struct link *link);

@@ -114,7 +114,7 @@ bool take_up_interface(struct process *process, struct plane *plane, struct link
     return taken;
 }
 
-void release_interface(struct plane *plane, struct store *store, struct link *link) {
+void withdraw_and_release_interface_or_end(struct plane *plane, struct store *store, struct link *link) {
     CALL(plane->carrying->remove, plane, link);
     CALL(plane->carrying->follow_mtu, plane, link, 0);
     close_files_of_link(store, link);

@@ -99,7 +99,7 @@ static void pass_second_save_and_notify(struct lagd *lagd) {
     EACH_LINK(link, &lagd->ports) {
         if (link->lines_left < MOST_LINES) link->lines_left++;
     }
-    look_for_twins(&lagd->process.lines, &lagd->ports);
+    note_twins_and_tell_new(&lagd->process.lines, &lagd->ports);
     if (lagd->protocol.bundle.lines_left < MOST_LINES) lagd->protocol.bundle.lines_left++;
     pass_revert_second(&lagd->protocol);
     ask_again_if_due(&lagd->protocol.changes, &lagd->ports);

@@ -83,7 +83,7 @@ struct passing {
     void (*run_programs)(struct tap_plane *tap, const struct link *link, struct guard *guard); /* at a member */
     void (*count)(struct tap_plane *tap);                         /* what the kernel did since the last time */
     void (*withdraw)(struct tap_plane *tap);                      /* what is not, or no longer, where the kernel passes it on */
-    void (*withdraw_port)(struct tap_plane *tap, uint16_t port);  /* its link goes down */
+    void (*withdraw_port_or_end)(struct tap_plane *tap, uint16_t port);  /* its link goes down */
     void (*pass_on)(struct tap_plane *tap);                       /* all that was put was sent */
     void (*note_read)(struct tap_plane *tap, unsigned packets, bool drained); /* of the device */
     void (*open_host)(struct tap_plane *tap, bool open);          /* frames of the host are taken for a while */

@@ -23,7 +23,7 @@ void set_waiting(struct link *link, bool waits) {
 
 /* The carrier of a link is there, and was so since the last call; answers whether the link is up, or has to wait. What is there at the start
  * does not wait. */
-bool choose_aggregator_and_whether_restored(struct protocol *protocol, struct link *link) {
+bool choose_aggregator_and_set_waiting(struct protocol *protocol, struct link *link) {
     if (link->up || !protocol->process->has_started) return true;
     if (!link->waits) link->steady_since = milliseconds();
     set_waiting(link, !choose_aggregator_and_whether_over(protocol, link));

@@ -131,7 +131,7 @@ void set_link_send_and_tell(struct protocol *protocol, struct link *link, bool u
 void lose_and_release_link(struct protocol *protocol, struct link *link) {
     set_waiting(link, false);
     set_link_send_and_tell(protocol, link, false);
-    release_interface(protocol->plane, &protocol->process->store, link);
+    withdraw_and_release_interface_or_end(protocol->plane, &protocol->process->store, link);
     (void)print_change(protocol->core, protocol, link);
 }
 

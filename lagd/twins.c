@@ -17,7 +17,7 @@ static uint16_t twin_of(const struct ports *ports, const struct link *link) {
     return 0;
 }
 
-void look_for_twins(struct lines *lines, struct ports *ports) {
+void note_twins_and_tell_new(struct lines *lines, struct ports *ports) {
     EACH_LINK(link, ports) {
         uint16_t twin = twin_of(ports, link);
         link->twin_seconds = twin == 0 ? 0 : link->twin_seconds + 1;

@@ -69,7 +69,7 @@ uint64_t frames_handed_up(struct plane *plane, bool counts_now) {
     return carry->counts[HANDED_UP] + carry->counts[HOST_UNTAKEN];
 }
 
-void hand_up_or_suspect(struct tap_plane *tap, uint32_t aggregator, uint8_t *packet, size_t length) {
+void hand_up_or_follow_peer_and_tell(struct tap_plane *tap, uint32_t aggregator, uint8_t *packet, size_t length) {
     if (aggregator == tap->carry->active) {
         put_host(tap, packet, length);
         return;

@@ -246,7 +246,7 @@ static void withdraw_moved(struct tap_plane *tap) {
 }
 
 /* The link of a port goes down, or its interface: before the library hears of it. */
-static void withdraw_port(struct tap_plane *tap, uint16_t port) {
+static void withdraw_port_or_end(struct tap_plane *tap, uint16_t port) {
     __atomic_store_n(&tap->fast.entries[port - 1].up_to, 0, __ATOMIC_SEQ_CST);
     EACH_CONVERSATION(conversation, tap->carry)
         if (conversation->fast.port == port) drop_row_member(row_of(tap, conversation));
@@ -369,7 +369,7 @@ static int check_fast(struct lines *lines, struct plane *plane UNUSED, const str
 
 const struct passing BY_KERNEL = {
     .check = check_fast, .start = start_fast, .end = end_fast, .set_up_device = give_no_queue, .run_programs = run_fast_programs,
-    .count = count_fast_frames_and_suspect, .withdraw = withdraw_moved, .withdraw_port = withdraw_port, .pass_on = pass_on,
+    .count = count_fast_frames_and_suspect, .withdraw = withdraw_moved, .withdraw_port_or_end = withdraw_port_or_end, .pass_on = pass_on,
     .note_read = subtract_read_and_lost, .open_host = open_host, .follow_discipline = withdraw_by_discipline,
     .set_collecting = set_collecting, .read_host = read_host_and_send, .tick = pass_fast_tick, .resume = resume_fast, .steers = true,
 };

@@ -151,7 +151,7 @@ void serve_settle_and_send(struct tap_plane *tap, uint32_t tag) {
 
 void withdraw_and_drop_answers(struct plane *plane, const struct link *link) {
     struct tap_plane *tap = plane->tap;
-    CALL(plane->passing->withdraw_port, tap, link->settings.number);
+    CALL(plane->passing->withdraw_port_or_end, tap, link->settings.number);
     tap->answers[link - tap->ports->links].count = 0; /* whoever asked there asks again */
 }
 

@@ -156,7 +156,7 @@ static void count_socket_losses(struct member *member) {
 /* The programs and sockets of a member are chosen anew; answers whether it is still taken up. */
 static bool renew_member(struct tap_plane *tap, struct link *link) {
     struct member *member = member_of(tap, link);
-    CALL(tap->plane->passing->withdraw_port, tap, link->settings.number);
+    CALL(tap->plane->passing->withdraw_port_or_end, tap, link->settings.number);
     count_socket_losses(member);
     close_all_sockets(&tap->process->store, link, member);
     reopen_guard(tap, link, &member->guard);
@@ -375,7 +375,7 @@ static void accept_data(struct tap_plane *tap, const struct link *link, uint8_t 
     size_t shown = length - head_octets() < LONGEST_SHOWN ? length - head_octets() : LONGEST_SHOWN;
     struct niw_received received = niw_receive(&tap->core->system, link->settings.number, frame, shown, response, sizeof response);
     if (is_done(tap->core, received.status, "niw_receive") && received.what == NIW_RECEIVED_HANDED_UP)
-        hand_up_or_suspect(tap, received.number, packet, length);
+        hand_up_or_follow_peer_and_tell(tap, received.number, packet, length);
     else
         member_of(tap, link)->counts[UNCOLLECTED]++;
 }

@@ -166,7 +166,7 @@ void set_speed_and_carrier(struct plane *plane);
 void choose_move_and_send(struct plane *plane);
 void pass_tick_of_frames(struct plane *plane);
 void accept_from_host(struct tap_plane *tap, uint8_t *packet, size_t length);
-void hand_up_or_suspect(struct tap_plane *tap, uint32_t aggregator, uint8_t *packet, size_t length);
+void hand_up_or_follow_peer_and_tell(struct tap_plane *tap, uint32_t aggregator, uint8_t *packet, size_t length);
 
 /* probe.c */
 void pass_probe_tick(struct tap_plane *tap);

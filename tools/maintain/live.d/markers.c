@@ -25,7 +25,7 @@ const char *const program = "markers";
 static const struct queueing OF_ONE_QUEUE = {.markers_at_once = 1};
 
 static uint64_t now = 5 * MINUTE;
-static unsigned lines; /* that were said */
+static unsigned said; /* that were said */
 static uint32_t last_id = FIRST_ID - 1;
 static unsigned sent, again;
 static bool answered; /* whether the response to the last marker came */
@@ -34,7 +34,7 @@ static const uint8_t OWN[6] = {2, 0, 0, 0, 0, 0xaa}, PARTNER[6] = {2, 0, 0, 0, 0
 
 ANSWERS(uint64_t milliseconds, now, void)
 bool say(struct lines *lines, int level, const char *format, ...) {
-    lines++;
+    said++;
     return true;
 }
 
@@ -109,7 +109,7 @@ static void begin(void) {
     reset_if_other_partner(&lagd->carry.probe, &lagd->carry);
     lagd->ports.links[0].view.partner_key = (uint16_t)now;
     reset_if_other_partner(&lagd->carry.probe, &lagd->carry);
-    sent = again = lines = 0;
+    sent = again = said = 0;
     CHECK(lagd->carry.probe.peer == NOT_ASKED);
 }
 
@@ -117,23 +117,23 @@ static void begin(void) {
 static void check_slow(void) {
     begin();
     pass(4);
-    CHECK(lagd->carry.probe.peer == ASKED && lines == 0 && sent == 1 && again == 1);
-    CHECK(respond(PARTNER, 1, last_id) && lagd->carry.probe.peer == ANSWERS && lines == 1);
+    CHECK(lagd->carry.probe.peer == ASKED && said == 0 && sent == 1 && again == 1);
+    CHECK(respond(PARTNER, 1, last_id) && lagd->carry.probe.peer == ANSWERS && said == 1);
     pass(1200);
-    CHECK(lagd->carry.probe.peer == ANSWERS && lines == 1 && sent == 1);
+    CHECK(lagd->carry.probe.peer == ANSWERS && said == 1 && sent == 1);
 }
 
 /* A peer that never answers is told of once, and is not taken for another one while it is asked again, each minute. */
 static void check_mute(void) {
     begin();
     pass(12);
-    CHECK(lagd->carry.probe.peer == MUTE && lines == 1 && sent == 1);
+    CHECK(lagd->carry.probe.peer == MUTE && said == 1 && sent == 1);
     for (unsigned tick = 0; tick < 2400; tick++) {
         pass(1);
         CHECK(lagd->carry.probe.peer == MUTE);
     }
-    CHECK(lines == 1 && sent == 4 + 1);
-    CHECK(respond(PARTNER, 1, last_id) && lagd->carry.probe.peer == ANSWERS && lines == 2);
+    CHECK(said == 1 && sent == 4 + 1);
+    CHECK(respond(PARTNER, 1, last_id) && lagd->carry.probe.peer == ANSWERS && said == 2);
 }
 
 /* No response of another one, of another port or of another number makes a mute peer one that answers; a late one does. */
@@ -142,10 +142,10 @@ static void check_forged(void) {
     pass(12);
     CHECK(!respond(STRANGER, 1, last_id) && !respond(PARTNER, 2, last_id) && !respond(STRANGER, 0, 0) && lagd->carry.probe.peer == MUTE);
     for (uint32_t id = 0; id < 1000; id++) CHECK(respond(PARTNER, 1, id) && lagd->carry.probe.peer == MUTE);
-    CHECK(lines == 1 && lagd->ports.links[0].counts[FOREIGN_RESPONSES] == 3);
+    CHECK(said == 1 && lagd->ports.links[0].counts[FOREIGN_RESPONSES] == 3);
     tell_markers(&lagd->process.lines, lagd->protocol.ticks, &lagd->ports.links[0]);
     tell_markers(&lagd->process.lines, lagd->protocol.ticks, &lagd->ports.links[0]);
-    CHECK(lines == 2);
+    CHECK(said == 2);
     CHECK(respond(PARTNER, 1, last_id) && lagd->carry.probe.peer == ANSWERS);
 }
 

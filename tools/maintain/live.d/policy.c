@@ -376,7 +376,7 @@ static void take(struct end *end, uint16_t port, uint8_t *frame, size_t length) 
     } else {
         received = niw_receive(&lagd->core.system, port, frame, length, response, sizeof response);
         if (is_done(&lagd->core, received.status, "niw_receive") && received.what == NIW_RECEIVED_HANDED_UP)
-            hand_up_or_suspect(&lagd->tap, received.number, frame, length);
+            hand_up_or_follow_peer_and_tell(&lagd->tap, received.number, frame, length);
     }
     settle_carry(&lagd->plane);
 }
