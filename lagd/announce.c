@@ -140,7 +140,7 @@ static void find_places(struct announce *own, const struct device *device) {
 
 /* Announces the addresses of the device, and of what stands above it. Where the kernel has no IPv6, it does not tell who is a router, and has
  * no address. */
-static void announce(struct lines *lines, struct announce *own, const struct device *device) {
+static void announce(struct printer *printer, struct announce *own, const struct device *device) {
     bool done = false;
     own->sender = socket(AF_PACKET, SOCK_RAW | SOCK_NONBLOCK | SOCK_CLOEXEC, 0);
     own->announced = own->place_count = 0;
@@ -150,7 +150,7 @@ static void announce(struct lines *lines, struct announce *own, const struct dev
         done = ask_all(own, RTM_GETADDR, AF_UNSPEC, announce_address);
     }
     if (!done)
-        (void)say(lines, LOG_WARNING | ABOUT_CARRIER, "carry %s: its addresses were not announced: %s", lines->process->settings->carry,
+        (void)say(printer, LOG_WARNING | ABOUT_CARRIER, "carry %s: its addresses were not announced: %s", printer->process->settings->carry,
             strerror(errno));
     if (own->sender >= 0) close(own->sender);
 }
@@ -161,10 +161,10 @@ void announce_soon(struct announce *own) {
 }
 
 /* 100 ms passed. While the device has no carrier, nothing that is sent there goes. */
-void pass_announcing_tick(struct lines *lines, struct announce *own, const struct device *device) {
+void pass_announcing_tick(struct printer *printer, struct announce *own, const struct device *device) {
     if (own->times == 0 || !has_carrier(device)) return;
     if (own->wait_ticks > 0 && --own->wait_ticks > 0) return;
-    announce(lines, own, device);
+    announce(printer, own, device);
     own->times--;
     own->wait_ticks = SECOND;
 }

@@ -15,7 +15,7 @@ struct daemon {
 };
 
 struct asking {
-    struct lines *lines;
+    struct printer *printer;
     struct report *report;
     const struct options *options;
     struct found found;
@@ -38,14 +38,14 @@ static int ask_socket(const char *path, const char *question) {
     return kept_open(&opened);
 }
 
-static bool tell_refusal(struct lines *lines, const char *path, const char *text) {
+static bool tell_refusal(struct printer *printer, const char *path, const char *text) {
     if (strncmp(text, REFUSAL, strlen(REFUSAL)) != 0) return false;
-    complain(lines, "%s: %.*s", path, (int)strcspn(text, "\n"), text);
+    complain(printer, "%s: %.*s", path, (int)strcspn(text, "\n"), text);
     return true;
 }
 
 /* Reads until the daemon ends the connection; NULL where it does not in time, or refuses, as a line says. */
-static char *read_whole_answer(struct lines *lines, int fd, const char *path) {
+static char *read_whole_answer(struct printer *printer, int fd, const char *path) {
     size_t size = PART_OF_ANSWER, used = 0;
     char *whole = malloc(size + 1);
     ssize_t got = 1;
@@ -56,9 +56,9 @@ static char *read_whole_answer(struct lines *lines, int fd, const char *path) {
     }
     if (!whole) stop(REFUSED, "no memory", "for an answer");
     whole[used] = 0;
-    bool refused = tell_refusal(lines, path, whole);
+    bool refused = tell_refusal(printer, path, whole);
     if (!refused && got == 0 && used > 0) return whole;
-    if (!refused) complain(lines, "%s: its daemon does not answer", path);
+    if (!refused) complain(printer, "%s: its daemon does not answer", path);
     free(whole);
     return NULL;
 }
@@ -120,7 +120,7 @@ static int print_changes_of_all(struct asking *own) {
             if (!waits[i].revents) continue;
             ssize_t got = recv(waits[i].fd, text, sizeof text - 1, 0);
             text[got > 0 ? got : 0] = 0;
-            if (got > 0 && !tell_refusal(own->lines, own->daemons[i].path, text)) print_shown(text, (size_t)got);
+            if (got > 0 && !tell_refusal(own->printer, own->daemons[i].path, text)) print_shown(text, (size_t)got);
             if (got <= 0) waits[i].fd = -1;
             left -= got <= 0;
         }
@@ -141,8 +141,8 @@ static bool ask_one(struct asking *own, struct daemon *daemon) {
     CLOSED_FILE int fd = ask_socket(daemon->path, status_question(own->options));
     daemon->may_ask = fd != -EACCES && fd != -EPERM;
     if (!daemon->may_ask) own->denied = daemon->path;
-    if (fd < 0) complain(own->lines, "%s: its daemon does not answer: %s", daemon->path, strerror(-fd));
-    if (fd >= 0) daemon->answer = read_whole_answer(own->lines, fd, daemon->path);
+    if (fd < 0) complain(own->printer, "%s: its daemon does not answer: %s", daemon->path, strerror(-fd));
+    if (fd >= 0) daemon->answer = read_whole_answer(own->printer, fd, daemon->path);
     daemon->fd = watched && fd >= 0 ? ask_socket(daemon->path, own->options->json ? "watch-json\n" : "watch\n") : -1;
     return watched ? daemon->fd >= 0 : daemon->answer != NULL;
 }
@@ -155,7 +155,7 @@ static char *tell_order_or_stop(struct asking *own, const char *path, const char
         stop(WRONG_WORD, "expected the name of an interface", interface);
     CLOSED_FILE int fd = ask_socket(path, order);
     if (fd < 0) stop(REFUSED, path, strerror(-fd));
-    answer = read_whole_answer(own->lines, fd, path);
+    answer = read_whole_answer(own->printer, fd, path);
     if (answer) answer[strcspn(answer, "\n")] = 0;
     return answer;
 }
@@ -191,10 +191,10 @@ static int order_daemon(struct asking *own) {
     return fflush(stdout) == 0 ? DONE : REFUSED;
 }
 
-int ask_daemons(struct lines *lines, struct report *report, const struct options *options) {
+int ask_daemons(struct printer *printer, struct report *report, const struct options *options) {
     static struct asking own; /* its answers stay until the program ends */
     unsigned answers = 0;
-    own = (struct asking){.lines = lines, .report = report, .options = options};
+    own = (struct asking){.printer = printer, .report = report, .options = options};
     find_sockets(&own.found, options->folder, true);
     own.denied = own.found.denied;
     for (; own.count < own.found.count; own.count++)

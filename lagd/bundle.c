@@ -32,17 +32,17 @@ static int spawn_with_usual_timer_slack(const char *path, char *const *environme
 }
 
 /* Runs the program. Nobody waits for it. */
-static void run_hook(struct lines *lines, const struct bundle *now, enum bundle_state before) {
+static void run_hook(struct printer *printer, const struct bundle *now, enum bundle_state before) {
     char name[NAME_ROOM + 16], state[32], previous[32], links_text[32], carrying[32], aggregator[32];
     char *environment[] = {"PATH=/usr/sbin:/usr/bin:/sbin:/bin", name, state, previous, links_text, carrying, aggregator, NULL};
-    snprintf(name, sizeof name, "LAGD_BUNDLE=%s", lines->process->settings->name);
+    snprintf(name, sizeof name, "LAGD_BUNDLE=%s", printer->process->settings->name);
     snprintf(state, sizeof state, "LAGD_STATE=%s", BUNDLE_STATE_TEXTS[now->state]);
     snprintf(previous, sizeof previous, "LAGD_PREVIOUS=%s", BUNDLE_STATE_TEXTS[before]);
     snprintf(links_text, sizeof links_text, "LAGD_LINKS=%u", now->links);
     snprintf(carrying, sizeof carrying, "LAGD_CARRYING=%u", now->carrying);
     snprintf(aggregator, sizeof aggregator, "LAGD_AGGREGATOR=%u", now->aggregator);
-    int fault = spawn_with_usual_timer_slack(lines->process->settings->hook, environment);
-    if (fault < 0) (void)say(lines, LOG_WARNING | ABOUT_HOOK, "hook %s: %s", lines->process->settings->hook, strerror(-fault));
+    int fault = spawn_with_usual_timer_slack(printer->process->settings->hook, environment);
+    if (fault < 0) (void)say(printer, LOG_WARNING | ABOUT_HOOK, "hook %s: %s", printer->process->settings->hook, strerror(-fault));
 }
 
 static void enter_state_and_tell_all(struct core *core, struct bundle *own, const struct bundle *now, const struct control *control) {
@@ -53,12 +53,12 @@ static void enter_state_and_tell_all(struct core *core, struct bundle *own, cons
         own->changed_at = time(NULL);
         own->counts[now->state]++;
     }
-    (void)say(core->lines, (now->state == BUNDLE_UP ? LOG_NOTICE : LOG_WARNING) | ABOUT_BUNDLE,
+    (void)say(core->printer, (now->state == BUNDLE_UP ? LOG_NOTICE : LOG_WARNING) | ABOUT_BUNDLE,
         "bundle %s: %s, %u of %u links carry, aggregator %u", settings->name, BUNDLE_STATE_TEXTS[now->state], now->carrying, now->links,
         now->aggregator);
     write_report_and_tell_watchers(core, control, NULL);
     notify_bundle(own, "");
-    if (now->state != before && settings->hook[0]) run_hook(core->lines, own, before);
+    if (now->state != before && settings->hook[0]) run_hook(core->printer, own, before);
 }
 
 /* Looks at the ports, and tells what became of the bundle. What changes too often is told later, but not that its device is down. */

@@ -81,7 +81,7 @@ void choose_ports_and_tell_host(struct plane *plane) {
     if (carry->active_count == 0) note_active_ports(carry, true); /* while there is no other */
     if (before != 0 && carry->active != 0 && before != carry->active) carry->counts[SWITCHES]++;
     if ((before == 0) != (carry->active == 0))
-        (void)say(carry->core->lines, LOG_NOTICE | ABOUT_CARRIER, "carry %s: carrier %s", carry->settings->carry, carry->active ? "on" : "off");
+        (void)say(carry->core->printer, LOG_NOTICE | ABOUT_CARRIER, "carry %s: carrier %s", carry->settings->carry, carry->active ? "on" : "off");
     if (before != carry->active) count_and_forget_heard(carry);
     if (before != carry->active && carry->active != 0) announce_soon(&carry->announce);
     CALL(plane->carrying->tell_host, plane);
@@ -94,7 +94,7 @@ void go_on_in(struct carry *carry, uint16_t aggregator) {
 }
 
 /* Another aggregator is active: what is on a port of the previous one leaves it, behind a marker. Its frames wait until it is free there.
- * One for which no marker is left goes on after a rest. Answers whether markers are due. */
+ * One for which no marker is left goes on after a rest. Answers whether markers may be due. */
 bool leave_previous(struct carry *carry) {
     uint16_t left = carry->previous;
     uint16_t ports[CONVERSATIONS];
@@ -144,7 +144,7 @@ static void wake_sleeper(struct carry *carry, const struct link *link) {
 void begin_carry_tick_and_announce(struct carry *carry) {
     carry->time = milliseconds();
     pass_tap_tick(carry->device);
-    pass_announcing_tick(carry->core->lines, &carry->announce, carry->device);
+    pass_announcing_tick(carry->core->printer, &carry->announce, carry->device);
 }
 
 void end_carry_tick_and_wake_ports(struct carry *carry) {

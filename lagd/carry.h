@@ -63,7 +63,7 @@ struct announce {
  * tell for how long nothing was. */
 struct carry {
     PARTS
-    struct state *state;           /* it gets a line as a conversation goes on by another interface */
+    struct state *state;           /* its file gets a line as a conversation goes on by another interface */
     uint64_t time;                 /* of the last tick */
     uint16_t active;               /* the aggregator whose ports carry the data, or 0 */
     uint16_t active_ports[NIW_MOST_PORTS]; /* of it, those that distribute */
@@ -119,6 +119,6 @@ void balance_and_send(struct carry *carry);
 
 /* announce.c */
 void announce_soon(struct announce *own);
-void pass_announcing_tick(struct lines *lines, struct announce *own, const struct device *device);
+void pass_announcing_tick(struct printer *printer, struct announce *own, const struct device *device);
 
 #endif

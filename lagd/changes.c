@@ -44,7 +44,7 @@ static bool is_named(const struct interface *interface, const char *name) {
 }
 
 /* Takes up an interface that has the name of a port. At the start, what is wrong with one ends the program. */
-static bool take_up_or_end(struct protocol *protocol, struct link *link, const struct interface *interface) {
+static bool take_up_or_stop(struct protocol *protocol, struct link *link, const struct interface *interface) {
     char what[128], holder[HOLDER_ROOM];
     if (interface->type != ARPHRD_ETHER) {
         if (!protocol->process->has_started && !link->left_over) stop(WRONG_WORD, "not an Ethernet interface", link->name);
@@ -128,7 +128,7 @@ static void follow_present(struct protocol *protocol, const struct interface *in
         named = named || (same && take_and_tell_new_name(protocol, link, interface));
         if (link->socket >= 0 && (same != named || (same && !is_bound(link->socket, link->index)))) lose_interface(protocol, link);
         if (same && link->socket >= 0 && !ASK(protocol->plane->carrying->see_port, true, protocol->plane, link, interface->master)) {
-            (void)say(protocol->core->lines, LOG_WARNING | ABOUT_DATA, "port %u %s: it was taken out of %s", link->settings.number, link->name,
+            (void)say(protocol->core->printer, LOG_WARNING | ABOUT_DATA, "port %u %s: it was taken out of %s", link->settings.number, link->name,
                 protocol->settings->carry);
             hold_once_to_tell_peer(protocol, link);
             lose_and_release_link(protocol, link);
@@ -136,7 +136,7 @@ static void follow_present(struct protocol *protocol, const struct interface *in
         known = known || named;
         if (!named) continue;
         link->present = true;
-        if (link->socket >= 0 || take_up_or_end(protocol, link, interface)) follow_link(protocol, link, interface);
+        if (link->socket >= 0 || take_up_or_stop(protocol, link, interface)) follow_link(protocol, link, interface);
     }
     if (!known) join_followed_port(protocol, interface);
 }
@@ -175,7 +175,7 @@ static void end_answer_and_lose_or_stop(struct protocol *protocol, int error) {
 }
 
 /* Takes one message. A bridge tells of its ports in messages of its own family, which say nothing of their links. */
-static void follow_change_or_end(struct protocol *protocol, const struct nlmsghdr *message) {
+static void follow_change_or_stop(struct protocol *protocol, const struct nlmsghdr *message) {
     struct changes *own = &protocol->changes;
     const struct ifinfomsg *info = mnl_nlmsg_get_payload(message);
     const struct tcmsg *discipline = mnl_nlmsg_get_payload(message);
@@ -192,10 +192,10 @@ static void follow_change_or_end(struct protocol *protocol, const struct nlmsghd
     if (type == RTM_DELLINK) lose_and_forget_absent(protocol, &interface);
 }
 
-void follow_messages_or_end(struct protocol *protocol, const void *messages, size_t length) {
+void follow_messages_or_stop(struct protocol *protocol, const void *messages, size_t length) {
     int left = (int)length;
     for (const struct nlmsghdr *message = messages; is_whole(message, left); message = mnl_nlmsg_next(message, &left))
-        follow_change_or_end(protocol, message);
+        follow_change_or_stop(protocol, message);
 }
 
 /* Takes what the kernel told, up to its end. Where it had no room for some, it says so, and all is asked again, and queues are seen anew. Any program
@@ -213,7 +213,7 @@ void receive_changes(struct protocol *protocol) {
             EACH_LINK(link, protocol->ports) link->has_new_queues = true;
             own->ask_again = true;
         } else {
-            follow_messages_or_end(protocol, room, (size_t)got);
+            follow_messages_or_stop(protocol, room, (size_t)got);
         }
     }
     EACH_LINK(link, protocol->ports) { /* once for all that was told */

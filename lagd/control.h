@@ -25,9 +25,9 @@ struct control {
 void read_options(struct process *process, int argc, char **argv, struct options *options);
 
 /* possible.c */
-int choose_plane_and_check(struct lines *lines, struct plane *plane, const struct options *options);
-int tell_lack(struct lines *lines, const struct options *options, const char *key, const char *what, int status);
-int check_programs(struct lines *lines, const struct options *options, const char *key, bool waits);
+int choose_plane_and_check(struct printer *printer, struct plane *plane, const struct options *options);
+int tell_lack(struct printer *printer, const struct options *options, const char *key, const char *what, int status);
+int check_programs(struct printer *printer, const struct options *options, const char *key, bool waits);
 
 /* status.c */
 void serve_caller(struct control *control, uint32_t caller);
@@ -55,6 +55,6 @@ void add_value_of(struct report *report, const char *name, const char *bundle, u
 void add_port_value(struct report *report, const char *bundle, const char *name, const struct link *link, uint64_t value);
 
 /* asking.c */
-int ask_daemons(struct lines *lines, struct report *report, const struct options *options);
+int ask_daemons(struct printer *printer, struct report *report, const struct options *options);
 
 #endif

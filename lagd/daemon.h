@@ -26,8 +26,8 @@ struct lagd {
         (part)->protocol = &(lagd)->protocol, (part)->device = &(lagd)->device, (part)->plane = &(lagd)->plane)
 static inline void join_parts(struct lagd *lagd) {
     lagd->process = (struct process){.settings = &lagd->settings, .inherited = &lagd->inherited, .epoll_file = -1, .status.listener = -1,
-        .lines = {.process = &lagd->process, .watchers = &lagd->process.status, .output = -1, .journal = -1}};
-    lagd->core.lines = &lagd->process.lines;
+        .printer = {.process = &lagd->process, .watchers = &lagd->process.status, .output = -1, .journal = -1}};
+    lagd->core.printer = &lagd->process.printer;
     lagd->core.settings = &lagd->settings;
     lagd->device = (struct device){.process = &lagd->process, .plane = &lagd->plane, .tap = -1, .asker = -1, .most_mtu = ETH_DATA_LEN};
     lagd->state = (struct state){.carry = &lagd->carry, .copy_folder = -1, .lock = -1, .copied = -1};

@@ -44,7 +44,7 @@ void set_carrier(struct device *own, bool on) {
         own->refused = false;
     } else if (!own->refused) {
         own->refused = true;
-        (void)say(&own->process->lines, LOG_ERR | ABOUT_CARRIER, "carry %s: its carrier cannot be set %s: %s", own->process->settings->carry,
+        (void)say(&own->process->printer, LOG_ERR | ABOUT_CARRIER, "carry %s: its carrier cannot be set %s: %s", own->process->settings->carry,
             on ? "on" : "off", strerror(errno));
     }
 }
@@ -56,7 +56,7 @@ void set_speed(struct device *own, uint32_t megabits) {
     errno = EOPNOTSUPP; /* where the kernel tells none, either */
     if (write_speed(own->asker, own->index, megabits) || own->speed_reported) return;
     own->speed_reported = true;
-    (void)say(&own->process->lines, LOG_WARNING | ABOUT_CARRIER, "carry %s: its speed stays: %s", own->process->settings->carry, strerror(errno));
+    (void)say(&own->process->printer, LOG_WARNING | ABOUT_CARRIER, "carry %s: its speed stays: %s", own->process->settings->carry, strerror(errno));
 }
 
 /* Whether the device has a carrier: an administrator may have taken it away. */
@@ -72,7 +72,7 @@ void settle_tap_mtu(struct device *own) {
     bool is_set_by_others = own->set_mtu != 0 && mtu != own->set_mtu;
     if (is_set_by_others) own->less_mtu = mtu < own->most_mtu ? mtu : 0;
     if (is_set_by_others && mtu > own->most_mtu)
-        (void)say(&own->process->lines, LOG_WARNING | ABOUT_CARRIER, "carry %s: its members take no MTU of %u: it has %u again",
+        (void)say(&own->process->printer, LOG_WARNING | ABOUT_CARRIER, "carry %s: its members take no MTU of %u: it has %u again",
             own->process->settings->carry, mtu, own->most_mtu);
     uint32_t least = own->less_mtu != 0 && own->less_mtu < own->most_mtu ? own->less_mtu : own->most_mtu;
     wanted.ifr_mtu = (int)least;
@@ -94,7 +94,7 @@ void follow_tap(struct device *own, bool has_now, const char *discipline) {
 void pass_tap_tick(struct device *own) {
     own->carrier_ticks = own->carrier && !own->carrier_told && is_tap_up(own) ? own->carrier_ticks + 1 : 0;
     if (own->carrier_ticks == CARRIER_TICKS)
-        (void)say(&own->process->lines, LOG_WARNING | ABOUT_CARRIER,
+        (void)say(&own->process->printer, LOG_WARNING | ABOUT_CARRIER,
             "carry %s: it has no carrier, though links carry: who took it away may set it on again", own->process->settings->carry);
 }
 

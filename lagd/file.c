@@ -26,7 +26,7 @@ struct reading {
 /* In the line that was read last. */
 static void count_and_tell_fault(struct reading *reading, const char *expected, const char *found) {
     reading->faults++;
-    complain(&reading->process->lines, "%s:%u: expected %s: %s", reading->path, reading->line, expected, found);
+    complain(&reading->process->printer, "%s:%u: expected %s: %s", reading->path, reading->line, expected, found);
 }
 
 /* Takes the head of a section: `line` begins with a bracket. Answers what was expected, or NULL. */
@@ -98,29 +98,29 @@ static void name_bundle(const char *path, char name[static NAME_ROOM]) {
 }
 
 /* Opens a file, if it is a regular one of no more than LONGEST_FILE octets; else NULL, and a line. */
-static FILE *open_file(struct lines *lines, const char *path) {
+static FILE *open_file(struct printer *printer, const char *path) {
     struct stat found;
     CLOSED_FILE int opened = open(path, O_RDONLY | O_CLOEXEC | O_NONBLOCK | O_NOCTTY);
     bool is_there = opened >= 0 && fstat(opened, &found) == 0, is_right = is_there && S_ISREG(found.st_mode) && found.st_size <= LONGEST_FILE;
     FILE *file = is_right ? fdopen(opened, "r") : NULL;
     if (file) (void)kept_open(&opened);
-    else complain(lines, "%s: %s", path, is_there && !is_right ? "expected a regular file of at most 65536 octets" : strerror(errno));
+    else complain(printer, "%s: %s", path, is_there && !is_right ? "expected a regular file of at most 65536 octets" : strerror(errno));
     return file;
 }
 
 /* Looks at what only all lines say together; answers whether that is right. */
-bool check_whole_bundle(struct lines *lines, const char *path, const struct settings *settings) {
+bool check_whole_bundle(struct printer *printer, const char *path, const struct settings *settings) {
     struct lack lack = lack_of(settings);
     if (lack.key)
-        complain(lines, "%s:%u: expected %s: %s", path, line_of_key(settings, lack.key), lack.expected, lack.key);
+        complain(printer, "%s:%u: expected %s: %s", path, line_of_key(settings, lack.key), lack.expected, lack.key);
     else if (lack.expected)
-        complain(lines, "%s: expected %s", path, lack.expected);
+        complain(printer, "%s: expected %s", path, lack.expected);
     return !lack.expected;
 }
 
 /* Reads a file; answers whether it is right. There is a line for each fault. */
 bool read_bundle_file(struct process *process, const char *path, struct settings *wanted) {
-    CLOSED_STREAM FILE *file = open_file(&process->lines, path);
+    CLOSED_STREAM FILE *file = open_file(&process->printer, path);
     struct reading reading = {.process = process, .file = file, .path = path, .settings = wanted};
     *wanted = usual_settings();
     name_bundle(path, wanted->name);
@@ -128,5 +128,5 @@ bool read_bundle_file(struct process *process, const char *path, struct settings
     ini_allow_multiline = false;
     ini_allow_inline_comments = false;
     (void)ini_parse_stream(take_line_or_tell_fault, &reading, parse_pair, &reading);
-    return reading.faults == 0 && check_whole_bundle(&process->lines, path, wanted);
+    return reading.faults == 0 && check_whole_bundle(&process->printer, path, wanted);
 }

@@ -56,7 +56,7 @@ void note_lacpdu_and_pin_partner(const struct settings *settings, struct link *l
 }
 
 /* Hands a frame to the library, and sends the response to a marker, if there were not too many within a second. */
-static void give_library_and_answer(struct protocol *protocol, struct link *link, const struct arrival *arrival, const struct system_id *actor) {
+static void give_to_library_and_answer(struct protocol *protocol, struct link *link, const struct arrival *arrival, const struct system_id *actor) {
     uint8_t response[NIW_FRAME];
     struct niw_received received = niw_receive(&protocol->core->system, link->settings.number, arrival->frame, arrival->length, response,
         sizeof response);
@@ -73,7 +73,7 @@ static void give_library_and_answer(struct protocol *protocol, struct link *link
 }
 
 void accept_response(struct protocol *protocol, struct link *link, const struct arrival *arrival) {
-    give_library_and_answer(protocol, link, arrival, NULL);
+    give_to_library_and_answer(protocol, link, arrival, NULL);
     CALL(protocol->plane->carrying->note_response, protocol->plane, link);
 }
 
@@ -110,7 +110,7 @@ void accept_frame(struct protocol *protocol, struct link *link, const struct arr
     if (is_response)
         protocol->plane->queueing->accept_response(protocol->plane->tap, link, arrival, response.transaction_id);
     else
-        give_library_and_answer(protocol, link, arrival, is_lacpdu ? &actor : NULL);
+        give_to_library_and_answer(protocol, link, arrival, is_lacpdu ? &actor : NULL);
 }
 
 /* What the kernel tells beside a frame; zeros where it does not. */
@@ -146,11 +146,11 @@ void receive_frames(struct protocol *protocol, uint16_t port) {
 }
 
 /* Tells of strangers on a link, if there are more than were told of: at once, and then every 10 s at most. */
-void tell_strangers(struct lines *lines, uint64_t ticks, struct link *link) {
+void tell_strangers(struct printer *printer, uint64_t ticks, struct link *link) {
     struct strangers *strangers = &link->strangers;
     uint64_t foreign = link->counts[FOREIGN_RECEIVED], changes = link->counts[PARTNER_CHANGES];
     if (foreign + changes == strangers->reported || ticks < strangers->tell_at) return;
-    if (!say(lines, LOG_WARNING | ABOUT_STRANGER,
+    if (!say(printer, LOG_WARNING | ABOUT_STRANGER,
         "port %u %s: another system speaks, last %s from %s: %" PRIu64 " LACPDUs not taken, %" PRIu64
             " changes of the partner", link->settings.number, link->name, system_text(&strangers->system, TEXT_ROOM),
             mac_text(strangers->source, TEXT_ROOM), foreign, changes))

@@ -33,7 +33,7 @@ void halt_or_go_on_with_device(struct protocol *protocol, bool up) {
     if (own->down == !up) return;
     own->down = !up;
     if (!protocol->process->has_started) return;
-    (void)say(protocol->core->lines, LOG_WARNING | ABOUT_CARRIER, "carry %s: the device is %s", protocol->settings->carry,
+    (void)say(protocol->core->printer, LOG_WARNING | ABOUT_CARRIER, "carry %s: the device is %s", protocol->settings->carry,
         up ? "up: LACP begins" : "down: LACP ends, and begins again once it is up");
     EACH_LINK(link, protocol->ports) link->changed = true;
     if (up)
@@ -53,7 +53,7 @@ void note_halt_at_start(struct halt *own, bool down, bool resuming) {
 /* The ports of the last daemon went on. */
 void halt_or_end_halt(struct protocol *protocol) {
     if (protocol->halt.down)
-        (void)say(protocol->core->lines, LOG_NOTICE | ABOUT_CARRIER, "carry %s: the device is down: LACP begins once it is up",
+        (void)say(protocol->core->printer, LOG_NOTICE | ABOUT_CARRIER, "carry %s: the device is down: LACP begins once it is up",
             protocol->settings->carry);
     if (protocol->halt.down && !protocol->halt.silent) hold_ports_and_tell_peers(protocol);
     if (!protocol->halt.down && protocol->halt.silent) end_halt_and_ask_links(protocol);

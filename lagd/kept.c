@@ -55,7 +55,7 @@ void drop_kept(int folder, const struct link *link, const char *kind) {
 }
 
 /* What an interface had before an earlier daemon changed it; zeros, where nobody knows. */
-void recall_settings(int folder, const struct link *link, struct kept *kept) {
+void recall_kept_member(int folder, const struct link *link, struct kept *kept) {
     struct ethtool_channels *queues = &kept->queues;
     char end[8] = "";
     CLOSED_STREAM FILE *file = read_kept(folder, link, "member");
@@ -68,25 +68,25 @@ void recall_settings(int folder, const struct link *link, struct kept *kept) {
 }
 
 /* Keeps what an interface has to get back, for the next daemon, where this one is killed. */
-void write_kept_file(struct lines *lines, int folder, const struct link *link, const struct kept *kept) {
+void write_kept_member(struct printer *printer, int folder, const struct link *link, const struct kept *kept) {
     const struct ethtool_channels *queues = &kept->queues;
     FILE *file = begin_kept(folder, link, "member");
     if (file)
         fprintf(file, "joins=%u\nqueues=%u %u %u %u\nrps=%s\nend\n", kept->joins, queues->rx_count, queues->tx_count, queues->other_count,
             queues->combined_count, kept->steered[0] ? kept->steered : "-");
     if (!file || !end_kept(folder, link, "member", file, true))
-        (void)say(lines, LOG_WARNING | ABOUT_DATA, "port %u %s: if this daemon is killed, nobody knows what the interface had: %s",
+        (void)say(printer, LOG_WARNING | ABOUT_DATA, "port %u %s: if this daemon is killed, nobody knows what the interface had: %s",
             link->settings.number, link->name, strerror(errno));
 }
 
 /* Keeps what an interface has now, before it is changed, and adds to it what it had before an earlier daemon changed it. */
-void merge_kept_file(struct lines *lines, int folder, const struct link *link, struct kept *kept) {
+void merge_kept_member(struct printer *printer, int folder, const struct link *link, struct kept *kept) {
     struct kept first;
-    recall_settings(folder, link, &first);
+    recall_kept_member(folder, link, &first);
     kept->joins |= first.joins;
     if (first.queues.combined_count + first.queues.rx_count + first.queues.tx_count > 0) kept->queues = first.queues;
     if (first.steered[0]) memcpy(kept->steered, first.steered, sizeof kept->steered);
-    write_kept_file(lines, folder, link, kept);
+    write_kept_member(printer, folder, link, kept);
 }
 
 /* The interface is gone for good. One that went to another namespace may come back, and is what it was made then. */

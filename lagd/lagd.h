@@ -212,20 +212,20 @@ struct store {
     size_t count;
 };
 
-/* The lines that are printed, in the journal, too, and told to watchers. Who has them without const may print one. */
-struct lines {
-    const struct process *process; /* whose they are */
+/* What prints lines, in the journal, too, and tells them to watchers. Who has it without const may print one. */
+struct printer {
+    const struct process *process; /* whose lines */
     struct status *watchers; /* who does not keep up is let go */
     int output, journal; /* what they are written to, once there were some, or -1 */
 };
 
 /* The system of the library. Who has it without const may call the library; where that refuses, a line says so, the peers are told, and the daemon
- * ends. */
+ * ends. What is only shown is asked with const, too. By a name with `_or_end` the daemon may end so, by one with `_or_stop` at once. */
 struct core {
     struct niw_system system;
-    struct lines *lines;
+    struct printer *printer;
     const struct settings *settings; /* those that hold now */
-    bool broken; /* whether a call was refused */
+    bool broken; /* whether a call was refused, or what carries data cannot go on */
 };
 
 /* The program: how far it is, its lines, the files that it has open, and what it was given. */
@@ -237,7 +237,7 @@ struct process {
     bool has_left; /* whether the next daemon goes on from here */
     int epoll_file; /* the epoll by which it waits */
     int folder;     /* of the status socket, and of what members had */
-    struct lines lines;
+    struct printer printer;
     struct words words;
     struct status status;
     struct store store;
@@ -399,12 +399,12 @@ const char *time_text(time_t time, char room[static 32]);
 enum { EACH_KIND(KIND_ITSELF) KINDS = 0xf000 };
 _Noreturn void stop(int status, const char *what, const char *which);
 void need(bool done, const char *what);
-/* Whether the library did what it was called for. Where it refused, the process is broken, and a line says so: who calls this has no const part. */
+/* Whether the library did what it was called for. Where it refused, the core is broken, and a line says so: who calls this has no const part. */
 bool is_done(struct core *core, uint32_t status, const char *call) MUST_USE;
 bool is_told(struct core *core, struct niw_number answer, const char *call, uint64_t *number) MUST_USE;
-bool say(struct lines *lines, int level, const char *format, ...) __attribute__((format(printf, 3, 4)));
+bool say(struct printer *printer, int level, const char *format, ...) __attribute__((format(printf, 3, 4)));
 /* Tells what is wrong with a file. */
-#define complain(lines, ...) ((void)say(lines, LOG_WARNING | ABOUT_FILE, __VA_ARGS__))
+#define complain(printer, ...) ((void)say(printer, LOG_WARNING | ABOUT_FILE, __VA_ARGS__))
 size_t escape(char *text, size_t room, const char *from, size_t length, bool lines);
 
 /* address.c */
@@ -421,7 +421,7 @@ void withdraw_and_release_interface_or_end(struct plane *plane, struct store *st
 int open_in_sys(int index, const char *what, int flags);
 bool read_text(int fd, char *text, size_t room);
 bool read_carrier_changes(struct link *link);
-void send_frame(struct core *core, bool *suspected, struct link *link, const uint8_t *frame);
+void send_frame(struct core *core, bool *carrier_suspected, struct link *link, const uint8_t *frame);
 
 /* frames.c */
 struct arrival {
@@ -439,19 +439,19 @@ void accept_response(struct protocol *protocol, struct link *link, const struct 
 void forget_partner(const struct settings *settings, struct link *link);
 bool may_be_partner(const struct link *link, const uint8_t *frame, struct system_id *actor);
 void note_lacpdu_and_pin_partner(const struct settings *settings, struct link *link, const struct system_id *actor, const uint8_t *frame);
-void tell_strangers(struct lines *lines, uint64_t ticks, struct link *link);
+void tell_strangers(struct printer *printer, uint64_t ticks, struct link *link);
 
 /* markers.c */
 bool read_response(struct core *core, const struct arrival *arrival, struct niw_pdu *pdu);
 bool is_partners_response(const struct settings *settings, const struct link *link, const struct arrival *arrival, const struct niw_pdu *response);
 void note_odd_marker(struct link *link, const struct arrival *arrival, enum count count);
 bool spend_answer(struct link *link, const struct arrival *arrival, unsigned most);
-void tell_markers(struct lines *lines, uint64_t ticks, struct link *link);
+void tell_markers(struct printer *printer, uint64_t ticks, struct link *link);
 
 #define MARKERS_AT_ONCE 16 /* how many come in the place of one, of a partner whose members have several queues, where ours have */
 
 /* twins.c */
-void note_twins_and_tell_new(struct lines *lines, struct ports *ports);
+void note_twins_and_tell_new(struct printer *printer, struct ports *ports);
 
 /* restore.c */
 bool choose_aggregator_and_set_waiting(struct protocol *protocol, struct link *link);
@@ -467,7 +467,7 @@ void limit_links(struct protocol *protocol, uint16_t most);
 /* changes.c */
 int open_and_follow_changes_or_stop(struct protocol *protocol);
 void receive_changes(struct protocol *protocol);
-void follow_messages_or_end(struct protocol *protocol, const void *messages, size_t length);
+void follow_messages_or_stop(struct protocol *protocol, const void *messages, size_t length);
 void ask_again_if_due(struct changes *own, struct ports *ports);
 void lose_link_and_ask_again(struct protocol *protocol, struct link *link);
 void ask_links(struct changes *own, const struct ports *ports);
@@ -496,7 +496,7 @@ void apply_holds(struct core *core, const struct ports *ports, bool down);
 void lose_and_release_link(struct protocol *protocol, struct link *link);
 void send_due(struct protocol *protocol);
 void send_due_and_read_views(struct protocol *protocol);
-void send_again(struct core *core, bool *suspected, struct ports *ports);
+void send_again(struct core *core, bool *carrier_suspected, struct ports *ports);
 bool pass_system_tick(struct core *core, struct ports *ports);
 uint64_t seconds_since(uint64_t began);
 uint64_t milliseconds_of(clockid_t clock);
@@ -570,7 +570,7 @@ void forget_interface(int folder, const struct link *link);
 
 /* folder.c */
 int open_or_make_folder(const char *folder, const char **fault);
-int make_status_folder_or_stop(const char *folder);
+int open_status_folder_or_stop(const char *folder);
 FILE *open_in(int folder, const char *name, int flags, const char *mode);
 const char *fault_of_owner(int opened);
 uint64_t namespace_cookie(void);
@@ -637,7 +637,7 @@ bool was_away_briefly(const struct inherited *inherited);
 bool lacpdu_holds(uint64_t now, uint64_t then, bool short_timeout);
 bool has_carried_links(const struct inherited *inherited);
 unsigned resume(struct protocol *protocol);
-void set_links_up_and_end_resuming(struct protocol *protocol);
+void bring_up_others_and_send(struct protocol *protocol);
 void resume_data(struct protocol *protocol, unsigned count);
 
 /* carry.c */

@@ -77,9 +77,9 @@ bool is_done(struct core *core, uint32_t status, const char *call) {
     char why[64];
     if (status == NIW_OK || core->broken) return status == NIW_OK;
     snprintf(why, sizeof why, "refused with %" PRIu32, status);
-    if (!core->lines->process->has_started) stop(REFUSED, call, why);
+    if (!core->printer->process->has_started) stop(REFUSED, call, why);
     core->broken = true;
-    (void)say(core->lines, LOG_ERR | ABOUT_REFUSAL, "%s: %s; the peers are told, and the daemon ends", call, why);
+    (void)say(core->printer, LOG_ERR | ABOUT_REFUSAL, "%s: %s; the peers are told, and the daemon ends", call, why);
     return false;
 }
 
@@ -102,30 +102,30 @@ static int tell_journal(int *journal, const char *name, int level, const char *t
 }
 
 /* Prints a text with the time, in UTC, or for the journal with its priority; watchers get it, too. Answers whether it was printed. */
-static bool say_text(struct lines *lines, int level, const char *text) {
+static bool say_text(struct printer *printer, int level, const char *text) {
     char line[LONGEST_LINE], time[32];
     struct timespec now;
     clock_gettime(CLOCK_REALTIME, &now);
     int used = snprintf(line, sizeof line, "%s.%03ldZ %s\n", time_text(now.tv_sec, time), now.tv_nsec / 1000000, text);
-    if (!(level & WATCHED)) tell_watchers(lines->watchers, line, (size_t)used, false);
+    if (!(level & WATCHED)) tell_watchers(printer->watchers, line, (size_t)used, false);
     if (in_journal()) {
-        int fault = tell_journal(&lines->journal, lines->process->settings->name, level, text);
+        int fault = tell_journal(&printer->journal, printer->process->settings->name, level, text);
         if (fault == 0 || fault == -EAGAIN) return fault == 0; /* one that is elsewhere reads standard output */
         used = snprintf(line, sizeof line, "<%d>%s\n", level & LOG_PRIMASK, text);
     }
-    return write_line(open_output(&lines->output), line, (size_t)used);
+    return write_line(open_output(&printer->output), line, (size_t)used);
 }
 
 /* Prints a text as a line that a terminal only shows; what is wrong with a file stands on standard error at the start. Answers whether it was
  * printed. */
-bool say(struct lines *lines, int level, const char *format, ...) {
+bool say(struct printer *printer, int level, const char *format, ...) {
     char raw[LONGEST_TEXT], text[LONGEST_TEXT];
     va_list given;
     va_start(given, format);
     int length = vsnprintf(raw, sizeof raw, format, given);
     va_end(given);
     (void)escape(text, sizeof text, raw, length < (int)sizeof raw ? (size_t)length : sizeof raw - 1, false);
-    if (lines->process->has_started || (level & KINDS) != ABOUT_FILE) return say_text(lines, level, text);
+    if (printer->process->has_started || (level & KINDS) != ABOUT_FILE) return say_text(printer, level, text);
     write_error(text);
     return true;
 }

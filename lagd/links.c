@@ -125,7 +125,7 @@ void withdraw_and_release_interface_or_end(struct plane *plane, struct store *st
 /* Sends a frame, with the address that the interface has now. An LACPDU that the kernel does not take is sent again at each tick,
  * until a newer one is due; so is one for which a second has no room: the library counts ticks, of which two may come at once where one was late. A
  * response is lost, as on a wire. A response tells of what came before its marker, and may pass what goes. */
-void send_frame(struct core *core, bool *suspected, struct link *link, const uint8_t *frame) {
+void send_frame(struct core *core, bool *carrier_suspected, struct link *link, const uint8_t *frame) {
     bool is_lacpdu = frame[SUBTYPE_AT] == SUBTYPE_LACP;
     uint8_t sent[NIW_FRAME];
     if (link->socket < 0) return;
@@ -145,7 +145,7 @@ void send_frame(struct core *core, bool *suspected, struct link *link, const uin
         return;
     }
     link->counts[FAILED_SENT]++;
-    *suspected = true;
+    *carrier_suspected = true;
     if (errno == ENETDOWN || errno == ENXIO) return; /* of a link that is down the kernel tells, too */
     link->trouble = errno;
     link->trouble_ticks = TROUBLE_TICKS;

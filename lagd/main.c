@@ -75,7 +75,7 @@ static int block_and_open_signals_or_stop(void) {
 /* Drops what is not needed once the sockets are open, for good: no program that it starts gets more, or has any. CAP_NET_RAW stays, for an
  * interface that comes later, and CAP_NET_ADMIN beside it where it carries data, as far as they are there. Its user stays who he was: who is
  * root may set files of /sys back, and runs the hooks. The unit has another one. */
-static void drop_privileges(struct lines *lines, bool administers) {
+static void drop_privileges(struct printer *printer, bool administers) {
     (void)prctl(PR_SET_NO_NEW_PRIVS, 1, 0, 0, 0);
     (void)prctl(PR_CAP_AMBIENT, PR_CAP_AMBIENT_CLEAR_ALL, 0, 0, 0);
     bool known = capng_get_caps_process() == 0;
@@ -86,7 +86,7 @@ static void drop_privileges(struct lines *lines, bool administers) {
     if (admin) (void)capng_update(CAPNG_ADD, CAPNG_EFFECTIVE | CAPNG_PERMITTED, CAP_NET_ADMIN);
     /* Whoever may not change the bounding set has it bounded, or not, by who started the daemon. */
     if (capng_apply(CAPNG_SELECT_BOTH) != 0 && capng_apply(CAPNG_SELECT_CAPS) != 0)
-        (void)say(lines, LOG_WARNING | ABOUT_RIGHTS, "the capabilities stay as they are");
+        (void)say(printer, LOG_WARNING | ABOUT_RIGHTS, "the capabilities stay as they are");
 }
 
 static void read_and_tell_ports_and_bundle(struct protocol *protocol) {
@@ -99,7 +99,7 @@ static void pass_second_save_and_notify(struct lagd *lagd) {
     EACH_LINK(link, &lagd->ports) {
         if (link->lines_left < MOST_LINES) link->lines_left++;
     }
-    note_twins_and_tell_new(&lagd->process.lines, &lagd->ports);
+    note_twins_and_tell_new(&lagd->process.printer, &lagd->ports);
     if (lagd->protocol.bundle.lines_left < MOST_LINES) lagd->protocol.bundle.lines_left++;
     pass_revert_second(&lagd->protocol);
     ask_again_if_due(&lagd->protocol.changes, &lagd->ports);
@@ -165,7 +165,7 @@ static void keep_device_and_hand_over(struct lagd *lagd) {
         CALL(lagd->plane.carrying->keep_device, &lagd->plane, false);
         return;
     }
-    (void)say(&lagd->process.lines, LOG_NOTICE | ABOUT_HANDOVER, "the next daemon may go on from here; %u frames that waited are lost",
+    (void)say(&lagd->process.printer, LOG_NOTICE | ABOUT_HANDOVER, "the next daemon may go on from here; %u frames that waited are lost",
         ASK(lagd->plane.carrying->frames_waiting, 0, &lagd->plane));
 }
 
@@ -242,10 +242,10 @@ static int run_daemon(struct lagd *lagd, const struct options *options) {
     lagd->process.epoll_file = epoll_create1(EPOLL_CLOEXEC);
     need(lagd->process.epoll_file >= 0, "epoll");
     if (lagd->settings.system_auto) read_auto_system_mac_or_stop(&lagd->settings);
-    lagd->process.folder = make_status_folder_or_stop(options->folder);
+    lagd->process.folder = open_status_folder_or_stop(options->folder);
     receive_stored(&lagd->process);
     choose_plane(&lagd->plane, &lagd->settings);
-    recall_state_or_leave_device(&lagd->state);
+    recall_state_and_leave_other_device(&lagd->state);
     make_ports_and_system_or_stop(&lagd->protocol);
     lagd->process.resuming = has_carried_links(&lagd->inherited);
     if (lagd->process.inherited->others && !lagd->plane.carrying->keeps_members) release_former_members(&lagd->plane);
@@ -255,11 +255,11 @@ static int run_daemon(struct lagd *lagd, const struct options *options) {
     open_status_or_stop(&lagd->process, options->folder);
     int clock = open_clock_or_stop();
     need(await_input(lagd->process.epoll_file, signals, SIGNALS) && await_input(lagd->process.epoll_file, clock, CLOCK), "epoll");
-    drop_privileges(&lagd->process.lines, lagd->plane.carrying->administers);
+    drop_privileges(&lagd->process.printer, lagd->plane.carrying->administers);
     unsigned resumed = resume(&lagd->protocol);
     lagd->process.has_started = true;
     resume_data(&lagd->protocol, resumed);
-    set_links_up_and_end_resuming(&lagd->protocol);
+    bring_up_others_and_send(&lagd->protocol);
     halt_or_end_halt(&lagd->protocol);
     leave_left_ports(&lagd->protocol);
     CALL(lagd->plane.carrying->end_resuming, &lagd->plane);
@@ -281,6 +281,6 @@ int main(int argc, char **argv) {
     open_closed_standard_files();
     read_options(&lagd->process, argc, argv, &options);
     if (options.action == RUN_BUNDLE) return run_daemon(lagd, &options);
-    if (options.action == CHECK) return choose_plane_and_check(&lagd->process.lines, &lagd->plane, &options);
-    return ask_daemons(&lagd->process.lines, lagd->control.report, &options);
+    if (options.action == CHECK) return choose_plane_and_check(&lagd->process.printer, &lagd->plane, &options);
+    return ask_daemons(&lagd->process.printer, lagd->control.report, &options);
 }

@@ -54,10 +54,10 @@ bool spend_answer(struct link *link, const struct arrival *arrival, unsigned mos
 }
 
 /* Tells of responses that are not the partner's, and of markers that are not answered: at once, and then every 10 s at most. */
-void tell_markers(struct lines *lines, uint64_t ticks, struct link *link) {
+void tell_markers(struct printer *printer, uint64_t ticks, struct link *link) {
     uint64_t foreign = link->counts[FOREIGN_RESPONSES], unanswered = link->counts[RESPONSES_UNSENT];
     if (foreign + unanswered == link->markers.reported || ticks < link->markers.tell_at) return;
-    if (!say(lines, LOG_WARNING | ABOUT_MARKERS,
+    if (!say(printer, LOG_WARNING | ABOUT_MARKERS,
             "port %u %s: Marker PDUs, last from %s: %" PRIu64 " responses that are not the partner's, %" PRIu64 " markers not answered",
             link->settings.number, link->name, mac_text(link->markers.source, TEXT_ROOM), foreign, unanswered))
         return;

@@ -124,7 +124,7 @@ void join_port_and_ask_now(struct protocol *protocol, struct link *link, const s
     link->puts_in = true;
     CALL(protocol->plane->carrying->forget, protocol->plane, link);
     if (!set_key_mode_and_hold(protocol, link)) return;
-    (void)say(protocol->core->lines, LOG_NOTICE | ABOUT_PORT, "port %u %s: it joins the bundle", port, link->name);
+    (void)say(protocol->core->printer, LOG_NOTICE | ABOUT_PORT, "port %u %s: it joins the bundle", port, link->name);
     ask_now(&protocol->changes, protocol->ports);
 }
 
@@ -133,7 +133,7 @@ static void release_port_and_number(struct protocol *protocol, struct link *link
     uint16_t port = link->settings.number;
     link->used = false; /* no line tells that its interface is missing */
     if (link->socket >= 0) lose_and_release_link(protocol, link);
-    (void)say(protocol->core->lines, LOG_NOTICE | ABOUT_PORT, "port %u %s: it left the bundle", port, link->name);
+    (void)say(protocol->core->printer, LOG_NOTICE | ABOUT_PORT, "port %u %s: it left the bundle", port, link->name);
     protocol->settings->ports[port - 1] = unset_port();
     begin_link(protocol->settings, link, port);
     protocol->plane->changed = true;
@@ -170,7 +170,7 @@ void leave_port(struct protocol *protocol, struct link *link) {
         release_port_and_number(protocol, link);
         return;
     }
-    (void)say(protocol->core->lines, LOG_NOTICE | ABOUT_PORT, "port %u %s: it leaves the bundle", link->settings.number, link->name);
+    (void)say(protocol->core->printer, LOG_NOTICE | ABOUT_PORT, "port %u %s: it leaves the bundle", link->settings.number, link->name);
     if (begin_hold_or_release(protocol, link)) send_due_and_read_views(protocol);
 }
 
@@ -178,7 +178,7 @@ void stay_port(struct protocol *protocol, struct link *link) {
     if (!link->leaving) return;
     link->leaving = false;
     link->changed = true;
-    (void)say(protocol->core->lines, LOG_NOTICE | ABOUT_PORT, "port %u %s: it stays in the bundle", link->settings.number, link->name);
+    (void)say(protocol->core->printer, LOG_NOTICE | ABOUT_PORT, "port %u %s: it stays in the bundle", link->settings.number, link->name);
     if (begin_hold_or_release(protocol, link)) send_due_and_read_views(protocol);
 }
 
@@ -190,7 +190,7 @@ static bool has_nothing_under_way(struct core *core, const struct link *link) {
         && is_told(core, niw_held(&core->system, link->settings.number), "niw_held", &held) && held == 0;
 }
 
-/* Notes whether a port has left: it is quiet, and was so while its peer may ask for responses to its markers, or it was waited for long enough. */
+/* Notes whether a port has left: nothing is under way there, and was so while its peer may ask for responses to its markers, or it was waited for long enough. */
 static bool note_whether_left(struct core *core, struct link *link) {
     uint64_t now = milliseconds(), most = core->settings->flight > MOST_WAIT ? core->settings->flight : MOST_WAIT;
     if (!link->up) return true;
@@ -264,7 +264,7 @@ bool take_and_tell_new_name(struct protocol *protocol, struct link *link, const 
     char *name = protocol->settings->ports[link->settings.number - 1].name;
     if (!link->followed || link->leaving || interface->master != protocol->device->index || link_named(protocol->ports, interface->name))
         return false;
-    (void)say(protocol->core->lines, LOG_NOTICE | ABOUT_PORT, "port %u %s: its name is %s now", link->settings.number, name, interface->name);
+    (void)say(protocol->core->printer, LOG_NOTICE | ABOUT_PORT, "port %u %s: its name is %s now", link->settings.number, name, interface->name);
     memcpy(name, interface->name, sizeof interface->name);
     write_report_and_tell_watchers(protocol->core, protocol->control, link);
     return true;
@@ -315,7 +315,7 @@ static const char *add_or_keep_by_words(struct protocol *protocol, char *text, u
 /* Puts a port out of use, or lets it be used again; answers whether it is done, as far as anything is on its way. */
 static bool hold_by_word(struct protocol *protocol, struct link *link, bool hold) {
     if (link->held != hold) {
-        (void)say(protocol->core->lines, LOG_NOTICE | ABOUT_PORT, "port %u %s: it is %s", link->settings.number, link->name,
+        (void)say(protocol->core->printer, LOG_NOTICE | ABOUT_PORT, "port %u %s: it is %s", link->settings.number, link->name,
             hold ? "held" : "used again");
         link->held = hold;
         if (!begin_hold_or_release(protocol, link)) return true;

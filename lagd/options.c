@@ -110,7 +110,7 @@ static void print_version(void) {
 }
 
 /* One option. --help and --version end the program. */
-static void act_on_letter_or_end(struct words *words, struct options *options, int letter, const char *last) {
+static void act_on_letter_or_stop(struct words *words, struct options *options, int letter, const char *last) {
     const struct option_text *row = OPTIONS;
     const struct key *key = BUNDLE_KEYS;
     while (row->name && row->letter != letter) row++;
@@ -173,7 +173,7 @@ static void read_operands_or_stop(struct words *words, struct options *options, 
     strcpy(settings->name, settings->ports[0].name);
 }
 
-static void read_letters_or_end(struct words *words, struct options *options, int argc, char **argv) {
+static void read_letters_or_stop(struct words *words, struct options *options, int argc, char **argv) {
     struct option names[OPTION_ROOM + 1] = {{NULL, 0, NULL, 0}};
     char letters[2 * OPTION_ROOM + 1] = "";
     size_t count = 0, length = 0;
@@ -185,14 +185,14 @@ static void read_letters_or_end(struct words *words, struct options *options, in
         if (names[i].has_arg) letters[length++] = ':';
     }
     opterr = 0;
-    for (int letter; (letter = getopt_long(argc, argv, letters, names, NULL)) >= 0;) act_on_letter_or_end(words, options, letter, argv[optind - 1]);
+    for (int letter; (letter = getopt_long(argc, argv, letters, names, NULL)) >= 0;) act_on_letter_or_stop(words, options, letter, argv[optind - 1]);
 }
 
 /* Reads the command line, and the file that it names. */
 void read_options(struct process *process, int argc, char **argv, struct options *options) {
     static const unsigned no_lines[MOST_BUNDLE_KEYS];
     *options = (struct options){.folder = "/run/lagd", .settings = usual_settings()};
-    read_letters_or_end(&process->words, options, argc, argv);
+    read_letters_or_stop(&process->words, options, argc, argv);
     bool has_keys = memcmp(options->settings.lines, no_lines, sizeof no_lines) != 0;
     if (options->json && options->action != SHOW && options->action != WATCH)
         stop(WRONG_WORD, "usage", "lagd --status --json, or lagd --watch --json");

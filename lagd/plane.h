@@ -15,7 +15,7 @@ struct link;
 struct msghdr;
 struct options;
 struct plane;
-struct lines;
+struct printer;
 struct report;
 struct queues;
 struct settings;
@@ -63,7 +63,7 @@ struct carrying {
     int (*member_of)(const struct plane *plane, uint16_t number); /* the interface by which the kernel has a conversation go, or 0 */
     void (*end_resuming)(struct plane *plane);           /* what were members of the last daemon, and are no more, have what they had before */
     unsigned (*frames_waiting)(struct plane *plane);     /* in the daemon, as far as that is known */
-    int (*check)(struct lines *lines, struct plane *plane, const struct options *options); /* what this machine lacks: how the program ends */
+    int (*check)(struct printer *printer, struct plane *plane, const struct options *options); /* what this machine lacks: how the program ends */
     void (*show)(struct report *report, const struct control *control, enum form form);   /* the device and its counts */
     void (*show_member)(struct report *report, const struct control *control, const struct link *link, enum form form);
     void (*show_markers)(struct report *report, const struct control *control);           /* in a line of text */
@@ -76,7 +76,7 @@ struct carrying {
 
 /* Who passes frames on: the daemon alone, or the kernel, too (`fast`). */
 struct passing {
-    int (*check)(struct lines *lines, struct plane *plane, const struct options *options); /* as that of the device */
+    int (*check)(struct printer *printer, struct plane *plane, const struct options *options); /* as that of the device */
     void (*start)(struct tap_plane *tap);                         /* loads what the kernel is to run; a fault ends the program */
     void (*end)(struct tap_plane *tap);                           /* the kernel passes nothing on any more */
     void (*set_up_device)(int index);                         /* it is new */
@@ -97,7 +97,7 @@ struct passing {
 
 /* By how many queues of a member its data goes: one, or all. */
 struct queueing {
-    int (*check)(struct lines *lines, struct plane *plane, const struct options *options); /* as that of the device */
+    int (*check)(struct printer *printer, struct plane *plane, const struct options *options); /* as that of the device */
     void (*start)(struct tap_plane *tap); /* a fault ends the program */
     unsigned (*fifos_of)(int index); /* how many disciplines that keep the order a member gets */
     /* False where that is looked at again once it has queues; `again`: after its discipline changed. */

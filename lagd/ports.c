@@ -65,7 +65,7 @@ static bool is_same_facts(const struct facts *one, const struct facts *other) {
         && one->partner_port == other->partner_port;
 }
 
-static bool print_facts(struct lines *lines, const struct ports *ports, const struct link *link, const struct facts *facts, bool watchers_told) {
+static bool print_facts(struct printer *printer, const struct ports *ports, const struct link *link, const struct facts *facts, bool watchers_told) {
     char whose[96] = "no partner", system[32], trouble[128] = "", holder[HOLDER_ROOM];
     int level = (facts->status == NIW_PORT_STATUS_DISTRIBUTING ? LOG_NOTICE : LOG_WARNING) | (watchers_told ? WATCHED : 0) | ABOUT_PORT;
     if (!facts->defaulted)
@@ -74,7 +74,7 @@ static bool print_facts(struct lines *lines, const struct ports *ports, const st
         snprintf(trouble, sizeof trouble, ", another lagd has the interface: %s", holder_of(ports, link->index, holder));
     else if (link->trouble)
         snprintf(trouble, sizeof trouble, ", %s", strerror(link->trouble));
-    return say(lines, level, "port %u %s: %s, aggregator %u, %s%s", link->settings.number, link->name, status_text(facts->status),
+    return say(printer, level, "port %u %s: %s, aggregator %u, %s%s", link->settings.number, link->name, status_text(facts->status),
         facts->aggregator, whose, trouble);
 }
 
@@ -82,14 +82,14 @@ static bool print_facts(struct lines *lines, const struct ports *ports, const st
 bool print_change(struct core *core, const struct protocol *protocol, struct link *link) {
     struct facts facts = facts_of(protocol, link);
     bool same = link->reported && is_same_facts(&facts, &link->printed), watched = link->watched && is_same_facts(&facts, &link->shown);
-    if (!core->lines->process->has_started || !link->used) return false;
+    if (!core->printer->process->has_started || !link->used) return false;
     if (!same && !watched) {
         link->changed_at = time(NULL);
         write_report_and_tell_watchers(core, protocol->control, link);
     }
     link->watched = true;
     link->shown = facts;
-    link->changed = !same && !print_facts(core->lines, protocol->ports, link, &facts, watched);
+    link->changed = !same && !print_facts(core->printer, protocol->ports, link, &facts, watched);
     if (same || link->changed) return false;
     link->reported = true;
     link->printed = facts;
@@ -100,7 +100,7 @@ bool print_change(struct core *core, const struct protocol *protocol, struct lin
 void print_changes_strangers_and_markers(struct core *core, const struct protocol *protocol, struct ports *ports) {
     EACH_LINK(link, ports) {
         if (link->changed && link->lines_left > 0 && print_change(core, protocol, link)) link->lines_left--;
-        tell_strangers(core->lines, protocol->ticks, link);
-        tell_markers(core->lines, protocol->ticks, link);
+        tell_strangers(core->printer, protocol->ticks, link);
+        tell_markers(core->printer, protocol->ticks, link);
     }
 }

@@ -9,8 +9,8 @@
 #define NO_INDEX INT_MAX
 
 /* Tells what is lacking, or not known, for a key of the file; answers how the program ends. */
-int tell_lack(struct lines *lines, const struct options *options, const char *key, const char *what, int status) {
-    complain(lines, "%s:%u: %s: %s", options->file, line_of_key(&options->settings, key), key, what);
+int tell_lack(struct printer *printer, const struct options *options, const char *key, const char *what, int status) {
+    complain(printer, "%s:%u: %s: %s", options->file, line_of_key(&options->settings, key), key, what);
     return status;
 }
 
@@ -23,18 +23,18 @@ int try_to_attach_program(const struct settings *settings) {
 }
 
 /* Whether the kernel has what a key wants: programs of an interface, and for `fast` to wait for them. Answers how the program ends. */
-int check_programs(struct lines *lines, const struct options *options, const char *key, bool waits) {
+int check_programs(struct printer *printer, const struct options *options, const char *key, bool waits) {
     int fault = try_to_attach_program(&options->settings);
-    if (fault == -EPERM) return tell_lack(lines, options, key, "not known without CAP_BPF and CAP_NET_ADMIN", DONE);
-    if (fault != 0) return tell_lack(lines, options, key, "the kernel has no program of an interface, which Linux has from 6.6 on", REFUSED);
+    if (fault == -EPERM) return tell_lack(printer, options, key, "not known without CAP_BPF and CAP_NET_ADMIN", DONE);
+    if (fault != 0) return tell_lack(printer, options, key, "the kernel has no program of an interface, which Linux has from 6.6 on", REFUSED);
     if (!waits || syscall(SYS_membarrier, MEMBARRIER_CMD_GLOBAL, 0, 0) == 0) return DONE;
-    return tell_lack(lines, options, key, "the kernel cannot wait for its programs (membarrier)", REFUSED);
+    return tell_lack(printer, options, key, "the kernel cannot wait for its programs (membarrier)", REFUSED);
 }
 
 /* Says what this machine lacks for a file that is right: answers how the program ends. */
-int choose_plane_and_check(struct lines *lines, struct plane *plane, const struct options *options) {
+int choose_plane_and_check(struct printer *printer, struct plane *plane, const struct options *options) {
     choose_plane(plane, &options->settings);
-    int status = ASK(plane->carrying->check, DONE, lines, plane, options);
-    if (status == DONE) status = ASK(plane->passing->check, DONE, lines, plane, options);
-    return status == DONE ? ASK(plane->queueing->check, DONE, lines, plane, options) : status;
+    int status = ASK(plane->carrying->check, DONE, printer, plane, options);
+    if (status == DONE) status = ASK(plane->passing->check, DONE, printer, plane, options);
+    return status == DONE ? ASK(plane->queueing->check, DONE, printer, plane, options) : status;
 }

@@ -40,17 +40,17 @@ static void ask_peer(struct carry *carry) {
 }
 
 /* It is known whether the peer answers: says so, if that is new. */
-static void note_answering(struct lines *lines, struct probe *own, enum answering now) {
+static void note_answering(struct printer *printer, struct probe *own, enum answering now) {
     own->asking = false;
     own->peer = now;
     if (own->peer == own->reported) return;
     own->reported = own->peer;
     if (own->peer == ANSWERS)
-        (void)say(lines, LOG_NOTICE | ABOUT_MARKERS, "carry %s: the peer answers markers", lines->process->settings->carry);
+        (void)say(printer, LOG_NOTICE | ABOUT_MARKERS, "carry %s: the peer answers markers", printer->process->settings->carry);
     else
-        (void)say(lines, LOG_WARNING | ABOUT_MARKERS,
-            "carry %s: the peer answers no markers, so conversations move once they rested for %u ms", lines->process->settings->carry,
-            lines->process->settings->flight);
+        (void)say(printer, LOG_WARNING | ABOUT_MARKERS,
+            "carry %s: the peer answers no markers, so conversations move once they rested for %u ms", printer->process->settings->carry,
+            printer->process->settings->flight);
 }
 
 /* The partner sent a response on a link: to the last marker there, however late, or to another one. */
@@ -59,7 +59,7 @@ void note_response(struct plane *plane, const struct link *link) {
     uint16_t port = link->settings.number;
     uint64_t answers;
     if (carry->probe.asked_on != port || !is_told(carry->core, niw_answers(&carry->core->system, port), "niw_answers", &answers)) return;
-    if (answers == NIW_ANSWERS_ANSWERED) note_answering(carry->core->lines, &carry->probe, ANSWERS);
+    if (answers == NIW_ANSWERS_ANSWERED) note_answering(carry->core->printer, &carry->probe, ANSWERS);
 }
 
 void pass_probe_tick(struct tap_plane *tap) {
@@ -69,7 +69,7 @@ void pass_probe_tick(struct tap_plane *tap) {
         own->asking = false; /* its link went: the peer is asked by another one */
         own->peer = NOT_ASKED;
     } else if (own->asking && carry->time - own->asked_at >= PATIENCE) {
-        note_answering(carry->core->lines, &carry->probe, MUTE);
+        note_answering(carry->core->printer, &carry->probe, MUTE);
     } else if (own->asking && carry->time - own->sent_at >= AGAIN) {
         own->sent_at = carry->time;
         if (withdraw_and_repeat_marker(tap, own->asked_on)) carry->counts[MARKERS_AGAIN]++;

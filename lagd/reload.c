@@ -121,7 +121,7 @@ static bool read_file_again(struct process *process, const char *file, struct se
     if (!read_bundle_file(process, file, wanted)) return false;
     if (!wanted->system_auto || !process->settings->system_auto) return true;
     memcpy(wanted->config.mac, process->settings->config.mac, sizeof wanted->config.mac);
-    return check_whole_bundle(&process->lines, file, wanted);
+    return check_whole_bundle(&process->printer, file, wanted);
 }
 
 /* Reads the file again. One that is wrong changes nothing. */
@@ -129,15 +129,15 @@ void reload(struct protocol *protocol, const char *file) {
     struct settings wanted;
     notify("RELOADING=1");
     if (!read_file_again(protocol->process, file, &wanted)) {
-        complain(protocol->core->lines, "%s: the file is wrong, and nothing is changed", file);
+        complain(protocol->core->printer, "%s: the file is wrong, and nothing is changed", file);
     } else if (!place_ports(protocol->process, protocol->ports, &wanted)) {
-        (void)say(protocol->core->lines, LOG_WARNING | ABOUT_RESTART,
+        (void)say(protocol->core->printer, LOG_WARNING | ABOUT_RESTART,
             "%s: more ports than there is room for: a restart of this bundle is needed, and nothing is changed", file);
     } else {
         const char *rest = restart_for(protocol->settings, &protocol->keys, &wanted);
         unsigned changed = apply_settings(protocol, &wanted);
-        (void)say(protocol->core->lines, LOG_NOTICE | ABOUT_RELOAD, "%s: read again, %u ports changed", file, changed);
-        if (rest) (void)say(protocol->core->lines, LOG_WARNING | ABOUT_RESTART, "%s: %s: a restart of this bundle is needed", file, rest);
+        (void)say(protocol->core->printer, LOG_NOTICE | ABOUT_RELOAD, "%s: read again, %u ports changed", file, changed);
+        if (rest) (void)say(protocol->core->printer, LOG_WARNING | ABOUT_RESTART, "%s: %s: a restart of this bundle is needed", file, rest);
         send_due_and_read_views(protocol);
     }
     notify_bundle(&protocol->bundle, READY);

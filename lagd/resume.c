@@ -4,7 +4,8 @@
 /* For how long LACPDUs of an end hold, in milliseconds, by its or its peer's LACP_Timeout (IEEE 802.1AX-2014, 6.4.4). */
 #define SHORT_TIMEOUT 3000
 #define LONG_TIMEOUT 90000
-/* How often a peer sends that is asked for long timeouts, in ticks (Slow_Periodic_Time, IEEE 802.1AX-2014, 6.4.4). */
+/* How often a peer sends that is asked for short or long timeouts, in ticks (Fast_Periodic_Time, Slow_Periodic_Time, IEEE 802.1AX-2014, 6.4.4). */
+#define FAST_PERIODIC 10
 #define SLOW_PERIODIC 300
 
 /* What the last daemon left of a link. An interface that was made anew is another one. */
@@ -31,14 +32,27 @@ static bool goes_on(const struct inherited *inherited, const struct link *link, 
         && may_be_partner(link, was->lacpdu, &actor);
 }
 
-/* What the library goes on from. Where an LACPDU of the peer was missed, the next one may come too late: a peer that reads its LACP_Timeout wrong
- * sends at once (update_NTT, IEEE 802.1AX-2014, 6.4.9), and until it has, an LACPDU goes to it each second. */
+/* Where an LACPDU of the peer was missed, the next one may come too late. A peer that reads its LACP_Timeout or LACP_Activity wrong sends at once
+ * (update_NTT, IEEE 802.1AX-2014, 6.4.9), and until it has, an LACPDU goes to it each second: so a long timeout of it is read as short, and beside a
+ * short one its LACP_Activity is read wrong. A passive port would not carry without that: there a short timeout is read as long, if the peer sends
+ * each second itself. */
+static void ask_peer(struct niw_saved *saved) {
+    uint8_t own = saved->frame[PARTNER_STATE], *peer = &saved->frame[ACTOR_STATE];
+    bool each_second = own & NIW_STATE_TIMEOUT;
+    if (saved->age <= (each_second ? FAST_PERIODIC : SLOW_PERIODIC)) return;
+    if (!(*peer & NIW_STATE_TIMEOUT) || (each_second && !(own & NIW_STATE_ACTIVITY)))
+        *peer ^= NIW_STATE_TIMEOUT;
+    else if (own & NIW_STATE_ACTIVITY)
+        *peer ^= NIW_STATE_ACTIVITY;
+}
+
+/* What the library goes on from. */
 static struct niw_saved saved_of(const struct inherited *inherited, const struct link *link, uint64_t now) {
     const struct inherited_link *was = inherited_of(inherited, link);
     struct niw_saved saved = {.port = link->settings.number, .aggregator = was->aggregator};
     saved.age = (uint32_t)((now - was->heard) / NIW_TICK_MILLISECONDS);
     memcpy(saved.frame, was->lacpdu, sizeof saved.frame);
-    if (saved.age > SLOW_PERIODIC) saved.frame[ACTOR_STATE] |= NIW_STATE_TIMEOUT;
+    ask_peer(&saved);
     return saved;
 }
 
@@ -63,13 +77,13 @@ static void tell_links(struct process *process, const struct ports *ports, unsig
     unsigned known = 0;
     EACH_LINK_AS_IS(link, ports) known += link->socket >= 0 && inherited_of(process->inherited, link) != NULL;
     if (known > 0 && process->inherited->others)
-        (void)say(&process->lines, LOG_WARNING | ABOUT_HANDOVER, "the state that the last daemon left is not used: it belongs to other settings");
+        (void)say(&process->printer, LOG_WARNING | ABOUT_HANDOVER, "the state that the last daemon left is not used: it belongs to other settings");
     else if (known > 0)
-        (void)say(&process->lines, LOG_NOTICE | ABOUT_HANDOVER, "%u of %u links go on where the last daemon left them", count, count_links(ports));
+        (void)say(&process->printer, LOG_NOTICE | ABOUT_HANDOVER, "%u of %u links go on where the last daemon left them", count, count_links(ports));
 }
 
 /* Once the interfaces are taken up: the ports that distributed do so again. Answers how many went on. Nothing but conversations that stay where they
- * were comes before set_links_up_and_end_resuming: so the system goes on from the last one as a warm start does. */
+ * were comes before bring_up_others_and_send: so the system goes on from the last one as a warm start does. */
 unsigned resume(struct protocol *protocol) {
     struct niw_saved saved[NIW_MOST_PORTS];
     size_t count = 0;
@@ -85,7 +99,7 @@ unsigned resume(struct protocol *protocol) {
 
 /* Behind the conversations that stay: the settings hold ports, and the links that are up come up for the library, too. Those that went on were up
  * before, so none of the others takes the place of one where links are limited. */
-void set_links_up_and_end_resuming(struct protocol *protocol) {
+void bring_up_others_and_send(struct protocol *protocol) {
     apply_holds(protocol->core, protocol->ports, false);
     EACH_LINK(link, protocol->ports)
         if (protocol->process->resuming && link->up

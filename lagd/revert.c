@@ -79,7 +79,7 @@ void pass_revert_second(struct protocol *protocol) {
         if (!all_distribute(protocol->ports, aggregator) || !would_distribute(protocol->core, next)) continue;
         if (!is_done(protocol->core, niw_hold(&protocol->core->system, last->settings.number, true), "niw_hold")) return;
         if (!apply_hold(protocol->core, last, protocol->halt.down)) return;
-        (void)say(protocol->core->lines, LOG_NOTICE | ABOUT_PORT, "port %u %s: it makes way for port %u %s", last->settings.number, last->name,
+        (void)say(protocol->core->printer, LOG_NOTICE | ABOUT_PORT, "port %u %s: it makes way for port %u %s", last->settings.number, last->name,
             next->settings.number, next->name);
         send_due_and_read_views(protocol);
         return;

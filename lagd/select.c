@@ -104,10 +104,10 @@ void follow_peer(struct protocol *protocol, uint16_t aggregator) {
     own->last = aggregator;
     own->followed = aggregator_after(protocol->core, protocol, 0) == aggregator ? 0 : aggregator;
     if (own->followed == 0)
-        (void)say(protocol->core->lines, LOG_NOTICE | ABOUT_BUNDLE, "bundle %s: the peer sends in aggregator %u: it carries",
+        (void)say(protocol->core->printer, LOG_NOTICE | ABOUT_BUNDLE, "bundle %s: the peer sends in aggregator %u: it carries",
             protocol->settings->name, aggregator);
     else
-        (void)say(protocol->core->lines, LOG_WARNING | ABOUT_BUNDLE,
+        (void)say(protocol->core->printer, LOG_WARNING | ABOUT_BUNDLE,
             "bundle %s: the peer sends in aggregator %u: it carries, whatever select=%s prefers", protocol->settings->name, aggregator,
             SELECTIONS[protocol->settings->select]);
 }

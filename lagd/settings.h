@@ -151,8 +151,8 @@ struct niw_port port_of(const struct settings *settings, uint16_t port);
 bool wants_hold(const struct settings *settings, uint16_t port);
 
 /* file.c */
-struct lines;
-bool check_whole_bundle(struct lines *lines, const char *path, const struct settings *settings);
+struct printer;
+bool check_whole_bundle(struct printer *printer, const char *path, const struct settings *settings);
 bool read_bundle_file(struct process *process, const char *path, struct settings *wanted);
 
 #endif

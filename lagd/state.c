@@ -131,7 +131,7 @@ static FILE *replace_file(struct core *core, struct state *own, int folder, cons
 /* It could not be written: there is none. */
 static void give_up_file(struct state *own) {
     if (!own->failed)
-        (void)say(own->carry->core->lines, LOG_WARNING | ABOUT_HANDOVER, "its state cannot be kept, so the next daemon starts anew: %s",
+        (void)say(own->carry->core->printer, LOG_WARNING | ABOUT_HANDOVER, "its state cannot be kept, so the next daemon starts anew: %s",
             strerror(-last_fault()));
     own->failed = true;
     (void)unlinkat(own->carry->process->folder, own->name, 0);
@@ -159,9 +159,9 @@ static const char *fault_text(int fault) {
     return fault == HANGS ? "its disk does not answer" : strerror(-fault);
 }
 
-static void tell_failed_removal(struct lines *lines, const char *name, int fault) {
+static void tell_failed_removal(struct printer *printer, const char *name, int fault) {
     if (fault < 0)
-        (void)say(lines, LOG_ERR | ABOUT_HANDOVER,
+        (void)say(printer, LOG_ERR | ABOUT_HANDOVER,
             "its state cannot be removed: %s: remove %s, or start no daemon for as long as a partner is waited for", fault_text(fault), name);
 }
 
@@ -176,10 +176,10 @@ static void tell_outcome_of_copy(struct state *own, struct copied copied) {
     const char *folder = own->carry->settings->state_dir;
     bool failed = copied.written < 0 || copied.removed < 0;
     if (copied.written < 0 && !own->copy_failed)
-        (void)say(&process->lines, LOG_WARNING | ABOUT_HANDOVER, "its state cannot be kept in %s, and what is there may stay: %s", folder,
+        (void)say(&process->printer, LOG_WARNING | ABOUT_HANDOVER, "its state cannot be kept in %s, and what is there may stay: %s", folder,
             fault_text(copied.written));
-    if (!own->copy_failed) tell_failed_removal(&process->lines, own->copy_name, copied.removed);
-    if (own->copy_failed && !failed) (void)say(&process->lines, LOG_NOTICE | ABOUT_HANDOVER, "its state can be kept in %s again", folder);
+    if (!own->copy_failed) tell_failed_removal(&process->printer, own->copy_name, copied.removed);
+    if (own->copy_failed && !failed) (void)say(&process->printer, LOG_NOTICE | ABOUT_HANDOVER, "its state can be kept in %s again", folder);
     own->copy_failed = failed;
 }
 
@@ -301,7 +301,7 @@ void remove_state(struct state *own) {
     struct process *process = own->carry->process;
     own->over = true;
     keep_file(own, NULL);
-    tell_failed_removal(&process->lines, own->name, remove_file(process->folder, own->name, false));
+    tell_failed_removal(&process->printer, own->name, remove_file(process->folder, own->name, false));
     if (own->copy_folder >= 0) finish_copy(own, false);
 }
 
@@ -415,7 +415,7 @@ static const char *bring_over(struct inherited *inherited) {
 }
 
 /* Takes over a state; answers NULL, or why it counts for nothing. In another network namespace its numbers of interfaces are those of others. */
-static const char *read_state_or_leave_device(struct state *own, FILE *file, bool is_copy) {
+static const char *read_state_and_leave_other_device(struct state *own, FILE *file, bool is_copy) {
     struct inherited *inherited = own->carry->process->inherited;
     unsigned version;
     char boot[BOOT_ROOM], now[BOOT_ROOM], given[WAY_ROOM], room[WAY_ROOM];
@@ -457,15 +457,16 @@ static void open_copy_folder(struct state *own) {
     own->copied_ports = UINT64_MAX;
     if (own->has_copy) return;
     if (own->copy_folder >= 0) fault = errno == EWOULDBLOCK ? "another lagd has a bundle of this name there" : strerror(errno);
-    (void)say(own->carry->core->lines, LOG_WARNING | ABOUT_HANDOVER, "no state is kept in %s, so a start after a reboot begins anew: %s", folder,
+    (void)say(own->carry->core->printer, LOG_WARNING | ABOUT_HANDOVER, "no state is kept in %s, so a start after a reboot begins anew: %s", folder,
         fault ? fault : strerror(errno));
     if (own->lock >= 0) close(own->lock);
     if (own->copy_folder >= 0) close(own->copy_folder);
     own->lock = own->copy_folder = -1;
 }
 
-/* Reads what the last daemon left. What counts for nothing has a line, and the daemon starts anew. */
-void recall_state_or_leave_device(struct state *own) {
+/* Reads what the last daemon left, and takes its device away where that is another one. What counts for nothing has a line, and the daemon starts
+ * anew. */
+void recall_state_and_leave_other_device(struct state *own) {
     const struct settings *settings = own->carry->settings;
     snprintf(own->name, sizeof own->name, "%lu.%s.state", network_namespace(), settings->name);
     snprintf(own->copy_name, sizeof own->copy_name, "%s.state", settings->name);
@@ -474,10 +475,10 @@ void recall_state_or_leave_device(struct state *own) {
     CLOSED_STREAM FILE *file = open_owned_state(own->carry->process->folder, own->name);
     bool is_copy = !file && own->copy_folder >= 0;
     if (is_copy) file = open_owned_state(own->copy_folder, own->copy_name);
-    const char *fault = file ? read_state_or_leave_device(own, file, is_copy) : NULL;
+    const char *fault = file ? read_state_and_leave_other_device(own, file, is_copy) : NULL;
     if (!fault) return;
     *own->carry->process->inherited = (struct inherited){0};
-    (void)say(own->carry->core->lines, LOG_WARNING | ABOUT_HANDOVER, "the state that the last daemon left is not used: %s", fault);
+    (void)say(own->carry->core->printer, LOG_WARNING | ABOUT_HANDOVER, "the state that the last daemon left is not used: %s", fault);
 }
 
 /* Whether there was no daemon for a moment only: what waits in sockets and in the TAP device is still of use. */

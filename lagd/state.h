@@ -68,7 +68,7 @@ struct state {
 };
 
 /* state.c */
-void recall_state_or_leave_device(struct state *own);
+void recall_state_and_leave_other_device(struct state *own);
 bool save_state(struct state *own, bool leaves);
 void write_port_of_conversation(struct state *own, uint16_t number, uint16_t port);
 void remove_state(struct state *own);

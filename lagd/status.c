@@ -172,7 +172,7 @@ void tell_watchers(struct status *own, const char *text, size_t length, bool jso
 
 /* Tells those who watch in JSON how a port is now, or the bundle, where `link` is null, by the report of `control`. */
 void write_report_and_tell_watchers(struct core *core, const struct control *control, const struct link *link) {
-    struct status *own = core->lines->watchers;
+    struct status *own = core->printer->watchers;
     struct report *report = control->report;
     bool any = false;
     EACH_CALLER(caller, own) any = any || (caller->watches && caller->json);

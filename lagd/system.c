@@ -105,9 +105,9 @@ void send_due_and_read_views(struct protocol *protocol) {
 }
 
 /* Sends again what did not go before this tick, if nothing newer was due since. */
-void send_again(struct core *core, bool *suspected, struct ports *ports) {
+void send_again(struct core *core, bool *carrier_suspected, struct ports *ports) {
     EACH_LINK(link, ports)
-        if (link->unsent && !link->tried) send_frame(core, suspected, link, link->frame);
+        if (link->unsent && !link->tried) send_frame(core, carrier_suspected, link, link->frame);
 }
 
 void set_link_send_and_tell(struct protocol *protocol, struct link *link, bool up) {
@@ -181,7 +181,7 @@ bool end_is_told(const struct ports *ports) {
 /* Says of each port that the daemon has ended, and frees the system; answers whether the library never refused a call. */
 bool end_bundle_and_system(struct protocol *protocol) {
     EACH_LINK(link, protocol->ports)
-        if (link->used) (void)say(protocol->core->lines, LOG_NOTICE | ABOUT_END, "port %u %s: ended", link->settings.number, link->name);
+        if (link->used) (void)say(protocol->core->printer, LOG_NOTICE | ABOUT_END, "port %u %s: ended", link->settings.number, link->name);
     enter_down_state_and_tell_all(protocol->core, &protocol->bundle, protocol->control);
     return is_done(protocol->core, niw_free(&protocol->core->system), "niw_free") && !protocol->core->broken;
 }

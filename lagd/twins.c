@@ -17,14 +17,14 @@ static uint16_t twin_of(const struct ports *ports, const struct link *link) {
     return 0;
 }
 
-void note_twins_and_tell_new(struct lines *lines, struct ports *ports) {
+void note_twins_and_tell_new(struct printer *printer, struct ports *ports) {
     EACH_LINK(link, ports) {
         uint16_t twin = twin_of(ports, link);
         link->twin_seconds = twin == 0 ? 0 : link->twin_seconds + 1;
         if (twin == 0 || link->twin_seconds >= SECONDS) link->twin = twin;
         if (link->twin_seconds != SECONDS) continue;
         struct system_id partner = partner_of(&link->view);
-        (void)say(lines, LOG_WARNING | ABOUT_STRANGER,
+        (void)say(printer, LOG_WARNING | ABOUT_STRANGER,
             "port %u %s: its partner is port %u of %s, and so is that of port %u %s: two hosts may have this system", link->settings.number,
             link->name, link->view.partner_port, system_text(&partner, TEXT_ROOM), twin, ports->links[twin - 1].name);
     }

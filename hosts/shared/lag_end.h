@@ -23,7 +23,8 @@
 #define LAG_ACTOR_STATE 32
 #define LAG_PARTNER_STATE 52
 
-/* How often a partner sends that is asked for long timeouts, in ticks (IEEE 802.1AX-2014, 6.4.4). */
+/* How often a partner sends that is asked for short or long timeouts, in ticks (IEEE 802.1AX-2014, 6.4.4). */
+#define LAG_FAST_TICKS 10
 #define LAG_SLOW_TICKS 300
 
 /* The library of c/lag.c has this text, the native one has not. */
@@ -199,13 +200,7 @@ lag_end_save(struct lag_port *ports, size_t count, struct niw_saved *saved, int6
             saved[kept].port = it->port.number;
             saved[kept].aggregator = lag_aggregator_of(ports, i);
             saved[kept].age = age < UINT32_MAX ? (uint32_t) age : UINT32_MAX;
-            memcpy(saved[kept].frame, it->heard->frame, NIW_FRAME);
-            /* An LACPDU was missed, and the next one may come too late. A partner that reads its timeout wrong answers at once (6.4.9), and until it
-             * has answered it is sent an LACPDU each second. */
-            if (age > LAG_SLOW_TICKS) {
-                saved[kept].frame[LAG_ACTOR_STATE] |= NIW_STATE_TIMEOUT;
-            }
-            kept++;
+            memcpy(saved[kept++].frame, it->heard->frame, NIW_FRAME);
         }
     }
     return kept;
@@ -219,6 +214,25 @@ lag_take_known_mode(struct niw_port *port, const uint8_t *frame)
     if (port->active || frame[LAG_ACTOR_STATE] & NIW_STATE_ACTIVITY) {
         port->active = frame[LAG_PARTNER_STATE] & NIW_STATE_ACTIVITY;
         port->short_timeout = frame[LAG_PARTNER_STATE] & NIW_STATE_TIMEOUT;
+    }
+}
+
+/* Where an LACPDU was missed, the next one may come too late. A partner that reads its LACP_Timeout or LACP_Activity wrong answers at once (6.4.9), and
+ * until it has answered it is sent an LACPDU each second: so a long timeout of it is read as short, and beside a short one its LACP_Activity is read wrong.
+ * Without that of a partner a port that is passive would not carry: there a short timeout is read as long, if the partner sends each second itself. */
+static inline void
+lag_ask(struct niw_saved *saved)
+{
+    uint8_t own = saved->frame[LAG_PARTNER_STATE], *partner = &saved->frame[LAG_ACTOR_STATE];
+    bool each_second = own & NIW_STATE_TIMEOUT;
+
+    if (saved->age <= (each_second ? LAG_FAST_TICKS : LAG_SLOW_TICKS)) {
+        return;
+    }
+    if (!(*partner & NIW_STATE_TIMEOUT) || (each_second && !(own & NIW_STATE_ACTIVITY))) {
+        *partner ^= NIW_STATE_TIMEOUT;
+    } else if (own & NIW_STATE_ACTIVITY) {
+        *partner ^= NIW_STATE_ACTIVITY;
     }
 }
 
@@ -256,7 +270,8 @@ lag_end_resume(struct lag_end *end, const struct niw_config *config, struct lag_
         known[i] = ports[i].port;
         keys[i] = known[i].key;
         if (next < kept && saved[next].port == known[i].number) {
-            lag_take_known_mode(&known[i], saved[next++].frame);
+            lag_take_known_mode(&known[i], saved[next].frame);
+            lag_ask(&saved[next++]);
         }
     }
     for (;;) {

@@ -159,7 +159,8 @@ static uint64_t count_passed(struct fast_row *row, uint16_t port, struct member 
 }
 
 /* Counts what the kernel handed up, or lost, of what came on a port. */
-static void count_handed_and_suspect(struct carry *carry, struct fast_member *entry, uint64_t counts[static MEMBER_COUNTS], uint32_t aggregator) {
+static void count_handed_up_and_follow_peer(struct carry *carry, struct fast_member *entry, uint64_t counts[static MEMBER_COUNTS],
+    uint32_t aggregator) {
     uint64_t passed_up = take_count(&entry->passed_up), uncollected = take_count(&entry->uncollected), wrong_length = take_count(&entry->wrong_length);
     counts[DATA_RECEIVED] += passed_up + uncollected + wrong_length;
     counts[PASSED_UP] += passed_up;
@@ -169,12 +170,12 @@ static void count_handed_and_suspect(struct carry *carry, struct fast_member *en
     if (uncollected > 0) suspect_or_follow_aggregator(carry, aggregator);
 }
 
-static void count_fast_frames_and_suspect(struct tap_plane *tap) {
+static void count_fast_frames_and_follow_peer(struct tap_plane *tap) {
     uint64_t overflowed = take_count(&tap->fast.host->overflowed), unfit = take_count(&tap->fast.host->unfit), passed = overflowed + unfit;
     EACH_CONVERSATION(conversation, tap->carry)
         passed += count_passed(row_of(tap, conversation), conversation->fast.port, tap->members, &conversation->used);
     for (uint16_t i = 0; i < tap->ports->count; i++)
-        count_handed_and_suspect(tap->carry, &tap->fast.entries[i], tap->members[i].counts, tap->ports->links[i].view.aggregator);
+        count_handed_up_and_follow_peer(tap->carry, &tap->fast.entries[i], tap->members[i].counts, tap->ports->links[i].view.aggregator);
     tap->carry->counts[FROM_HOST] += passed;
     tap->carry->counts[OVERFLOWED] += overflowed;
     tap->carry->counts[UNFIT] += unfit;
@@ -192,14 +193,14 @@ static bool may_pass(struct tap_plane *tap, const struct conversation *conversat
 /* Waits for the programs. Where the kernel does so no longer, the peers are told, and the daemon ends. */
 static void wait_or_end(struct tap_plane *tap) {
     if (wait_for_programs()) return;
-    (void)say(tap->core->lines, LOG_ERR | ABOUT_DATA, "fast: the kernel waits no longer for its programs: %s; "
+    (void)say(tap->core->printer, LOG_ERR | ABOUT_DATA, "fast: the kernel waits no longer for its programs: %s; "
         "the peers are told, and the daemon ends",
         strerror(errno));
     tap->core->broken = true;
     end_fast(tap);
 }
 
-/* Waits until all that cleared rows passed on is with the members, and counts it: their conversations are withdrawn from the kernel. */
+/* Waits until all that rows without a member passed on is with the members, and counts it: their conversations are withdrawn from the kernel. */
 static void wait_and_withdraw_or_end(struct tap_plane *tap) {
     bool waited = false;
     EACH_CONVERSATION(conversation, tap->carry) {
@@ -266,7 +267,7 @@ static void withdraw_by_discipline(struct tap_plane *tap, const char *discipline
     EACH_CONVERSATION(conversation, tap->carry)
         if (holds && conversation->fast.port != 0) drop_row_member(row_of(tap, conversation));
     wait_and_withdraw_or_end(tap);
-    (void)say(tap->core->lines, LOG_WARNING | ABOUT_DATA, "carry %s: its queueing discipline is %s: its data %s", tap->settings->carry,
+    (void)say(tap->core->printer, LOG_WARNING | ABOUT_DATA, "carry %s: its queueing discipline is %s: its data %s", tap->settings->carry,
         discipline, holds ? "stays with the daemon, since that discipline may hold frames" : "may go by the kernel");
 }
 
@@ -353,7 +354,7 @@ static void pass_fast_tick(struct tap_plane *tap) {
     (void)read_tap_mac(tap->device, (uint8_t *)&tap->fast.host->mac);
     withdraw_moved(tap);
     open_host(tap, has_carrier(tap->device));
-    count_fast_frames_and_suspect(tap);
+    count_fast_frames_and_follow_peer(tap);
     if (tap->carry->probe.peer == MUTE) withdraw_resting(tap);
     EACH_CONVERSATION(conversation, tap->carry) {
         struct fast_row *row = row_of(tap, conversation);
@@ -363,13 +364,13 @@ static void pass_fast_tick(struct tap_plane *tap) {
     if (any) wait_or_end(tap);
 }
 
-static int check_fast(struct lines *lines, struct plane *plane UNUSED, const struct options *options) {
-    return check_programs(lines, options, "fast", true);
+static int check_fast(struct printer *printer, struct plane *plane UNUSED, const struct options *options) {
+    return check_programs(printer, options, "fast", true);
 }
 
 const struct passing BY_KERNEL = {
     .check = check_fast, .start = start_fast, .end = end_fast, .set_up_device = give_no_queue, .run_programs = run_fast_programs,
-    .count = count_fast_frames_and_suspect, .withdraw = withdraw_moved, .withdraw_port_or_end = withdraw_port_or_end, .pass_on = pass_on,
+    .count = count_fast_frames_and_follow_peer, .withdraw = withdraw_moved, .withdraw_port_or_end = withdraw_port_or_end, .pass_on = pass_on,
     .note_read = subtract_read_and_lost, .open_host = open_host, .follow_discipline = withdraw_by_discipline,
     .set_collecting = set_collecting, .read_host = read_host_and_send, .tick = pass_fast_tick, .resume = resume_fast, .steers = true,
 };

@@ -24,7 +24,7 @@ static void force_silent_port(struct carry *carry, uint16_t port, uint64_t *sinc
     *since = 0;
     if (!is_told(carry->core, niw_force_port(&carry->core->system, port), "niw_force_port", &freed)) return;
     carry->counts[FORCED] += freed;
-    (void)say(carry->core->lines, LOG_WARNING | ABOUT_DATA, "port %u %s: it carries no more, and %" PRIu64 " conversations leave it", port,
+    (void)say(carry->core->printer, LOG_WARNING | ABOUT_DATA, "port %u %s: it carries no more, and %" PRIu64 " conversations leave it", port,
         link->name, freed);
 }
 

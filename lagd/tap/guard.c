@@ -16,8 +16,8 @@
 #define STACKED "it stands on another interface, whose queues are not seen"
 
 /* A line about what troubles the data of a member, and why, where there is more to tell. */
-static void warn_of_data(struct lines *lines, const struct link *link, const char *what, const char *why) {
-    (void)say(lines, LOG_WARNING | ABOUT_DATA, "port %u %s: %s%s%s", link->settings.number, link->name, what, why ? ": " : "", why ? why : "");
+static void warn_of_data(struct printer *printer, const struct link *link, const char *what, const char *why) {
+    (void)say(printer, LOG_WARNING | ABOUT_DATA, "port %u %s: %s%s%s", link->settings.number, link->name, what, why ? ": " : "", why ? why : "");
 }
 
 /* A line of the file: a setting, and what it was. */
@@ -96,11 +96,11 @@ static bool set_rps_to_one(const struct link *link) {
 }
 
 /* What goes up is not spread over processors at the TAP device: a marker would be answered before the data that came before it went up. */
-void stop_device_rps(struct lines *lines, int index) {
+void stop_device_rps(struct printer *printer, int index) {
     char now[PROCESSORS_ROOM];
     if (!read_rps(index, now) || has_no_processor(now) || write_line(index, RPS_FILE, "0")) return;
-    (void)say(lines, LOG_WARNING | ABOUT_DATA, "carry %s: RPS spreads what goes up over processors, and markers may be answered before data",
-        lines->process->settings->carry);
+    (void)say(printer, LOG_WARNING | ABOUT_DATA, "carry %s: RPS spreads what goes up over processors, and markers may be answered before data",
+        printer->process->settings->carry);
 }
 
 /* Writes a line that a file is to have again; answers whether that is not another one now. */
@@ -199,7 +199,7 @@ void move_kept_queues(struct process *process, struct link *link, const uint8_t 
     FILE *file = read_kept(process->folder, link, "queues");
     memcpy(link->mac, mac, sizeof link->mac);
     if (file && !close_and_rewrite_kept(process->folder, link, file, NOTHING_MORE))
-        warn_of_data(&process->lines, link, "nobody knows any more what its queues had", strerror(errno));
+        warn_of_data(&process->printer, link, "nobody knows any more what its queues had", strerror(errno));
 }
 
 /* How many queues an interface has, those that send above those that receive; 0 where the kernel does not tell of both. */
@@ -246,7 +246,7 @@ static void spread_over_queues(struct process *process, int chooser, const struc
     if (!fault) return;
     guard->queues = 1;
     stop_spreading(&process->store, link, guard);
-    warn_of_data(&process->lines, link, "it gets one queue", fault);
+    warn_of_data(&process->printer, link, "it gets one queue", fault);
 }
 
 /* Whether somebody else changed the queues of a member, or what chooses them. Each time another queue is looked at. */
@@ -361,7 +361,7 @@ static void reduce_to_one_queue(struct process *process, const struct link *link
     struct ethtool_channels wanted;
     if (read_channels(link->index, &wanted) <= 1) return;
     if (!close_and_rewrite_kept(process->folder, link, read_kept(process->folder, link, "queues"), WHAT_IS_LOST))
-        warn_of_data(&process->lines, link, "nobody knows what its queues had", strerror(errno));
+        warn_of_data(&process->printer, link, "nobody knows what its queues had", strerror(errno));
     wanted.cmd = ETHTOOL_SCHANNELS;
     wanted.rx_count = wanted.tx_count = wanted.combined_count == 0;
     wanted.combined_count = wanted.combined_count > 0;
@@ -388,7 +388,7 @@ static bool is_unqueued(const struct link *link) {
 
 /* Sees whether what is sent at an interface keeps its order in its queueing discipline. Frames of several segments have to go through
  * that, since it segments them for an interface that cannot: so they get one that does. */
-void give_fifos_and_note_order(struct lines *lines, const struct plane *plane, struct link *link, struct guard *guard) {
+void give_fifos_and_note_order(struct printer *printer, const struct plane *plane, struct link *link, struct guard *guard) {
     bool given = false;
     (void)read_discipline(link->index, link->discipline);
     if (plane->wants_fifo && !is_unqueued(link) && strcmp(link->discipline, "noqueue") != 0)
@@ -397,7 +397,7 @@ void give_fifos_and_note_order(struct lines *lines, const struct plane *plane, s
     link->has_fifos = given && strcmp(link->discipline, "mq") == 0;
     guard->in_order = keeps_order(link->discipline) || link->has_fifos;
     if (plane->segments && !guard->in_order && !is_unqueued(link))
-        warn_of_data(lines, link, DISORDER, "it loses frames of several segments, if its card cannot cut them");
+        warn_of_data(printer, link, DISORDER, "it loses frames of several segments, if its card cannot cut them");
 }
 
 /* The link comes up: the queue of its interface, if that is one of the daemon, has the length of its speed from now on. */
@@ -422,9 +422,9 @@ void keep_from_stack(struct tap_plane *tap, const struct link *link, struct guar
     if (tap->dropper >= 0) guard->opened = attach_stored(&tap->process->store, "guard", tap->dropper, link->index, false);
     if (tap->dropper >= 0 && guard->opened < 0) guard->classifier = set_classifier(tap->dropper, link->index);
     if (guard->classifier == CLASSIFIER_BEHIND_OTHERS)
-        warn_of_data(tap->core->lines, link, "it has a clsact already", "its own network stack has what filters there accept");
+        warn_of_data(tap->core->printer, link, "it has a clsact already", "its own network stack has what filters there accept");
     if (guard->opened < 0 && guard->classifier == NO_CLASSIFIER)
-        warn_of_data(tap->core->lines, link, "its own network stack has its frames, too", NULL);
+        warn_of_data(tap->core->printer, link, "its own network stack has its frames, too", NULL);
 }
 
 /* Has the kernel pass on what goes and comes at a member, where it may; a line says why not. */
@@ -435,7 +435,7 @@ void run_fast_programs(struct tap_plane *tap, const struct link *link, struct gu
     guard->fast = guard->opened >= 0;
     if (guard->fast) return;
     if (!is_unqueued(link)) /* it is looked at again then */
-        warn_of_data(tap->core->lines, link, "its data stays with the daemon", fault ? fault : strerror(-guard->opened));
+        warn_of_data(tap->core->printer, link, "its data stays with the daemon", fault ? fault : strerror(-guard->opened));
     keep_from_stack(tap, link, guard);
 }
 
@@ -450,7 +450,7 @@ static unsigned gro_allowed(uint32_t answer_after, int index, const struct guard
 }
 
 bool set_one_queue(struct tap_plane *tap, struct link *link, struct guard *guard, bool again) {
-    give_fifos_and_note_order(tap->core->lines, tap->plane, link, guard);
+    give_fifos_and_note_order(tap->core->printer, tap->plane, link, guard);
     if (!again) reduce_to_one_queue(tap->process, link);
     return true;
 }
@@ -463,11 +463,11 @@ bool set_all_queues(struct tap_plane *tap, struct link *link, struct guard *guar
         *before = now;
     else if (may_spread(tap->process->folder, link))
         (void)restore_channels(link->index, before);
-    give_fifos_and_note_order(tap->core->lines, tap->plane, link, guard);
+    give_fifos_and_note_order(tap->core->printer, tap->plane, link, guard);
     if (is_unqueued(link)) return false;
     spread_over_queues(tap->process, tap->chooser, link, guard);
     if (guard->spread && has_channels(link->index, before)) *before = (struct ethtool_channels){0};
-    write_kept_file(tap->core->lines, tap->process->folder, link, &guard->before);
+    write_kept_member(tap->core->printer, tap->process->folder, link, &guard->before);
     if (!guard->spread) reduce_to_one_queue(tap->process, link);
     return true;
 }
@@ -503,15 +503,15 @@ void open_guard(struct tap_plane *tap, struct link *link, struct guard *guard) {
     if (!read_rps(link->index, before->steered)) before->steered[0] = 0;
     if (!tap->plane->passing->steers && has_no_processor(before->steered)) before->steered[0] = 0;
     bool gathers = before->steered[0] && !tap->plane->passing->steers; /* where the kernel passes data on, it does so only then */
-    merge_kept_file(tap->core->lines, tap->process->folder, link, before);
+    merge_kept_member(tap->core->printer, tap->process->folder, link, before);
     bool has_queues = tap->plane->queueing->set(tap, link, guard, false);
-    if (gathers && !guard->spread && !set_rps_to_one(link)) warn_of_data(tap->core->lines, link, SPREADS, NULL);
+    if (gathers && !guard->spread && !set_rps_to_one(link)) warn_of_data(tap->core->printer, link, SPREADS, NULL);
     run_programs_and_set_gro(tap, link, guard);
     if ((read_gro_and_lro(link->index).on & ~gro_allowed(tap->settings->answer_after, link->index, guard)) != 0)
-        warn_of_data(tap->core->lines, link, "GRO or LRO stays on, and markers may overtake data", NULL);
-    if (link->stacked && !tap->plane->passing->steers) warn_of_data(tap->core->lines, link, STACKED, "markers may overtake data");
+        warn_of_data(tap->core->printer, link, "GRO or LRO stays on, and markers may overtake data", NULL);
+    if (link->stacked && !tap->plane->passing->steers) warn_of_data(tap->core->printer, link, STACKED, "markers may overtake data");
     if (!guard->spread && has_queues && read_channels(link->index, &queues) > 1)
-        warn_of_data(tap->core->lines, link, "it has several queues, and markers may overtake data", NULL);
+        warn_of_data(tap->core->printer, link, "it has several queues, and markers may overtake data", NULL);
 }
 
 /* The interface is no member any more. What cannot be set back stays kept, as without CAP_NET_ADMIN. */
@@ -537,7 +537,7 @@ void put_back_former(struct process *process, struct fast_programs *fast, const 
     guard.opened = claim_stored(&process->store, "guard", was->index);
     guard.chooser = claim_stored(&process->store, "queues", was->index);
     memcpy(link.mac, was->mac, sizeof link.mac);
-    recall_settings(process->folder, &link, &guard.before);
+    recall_kept_member(process->folder, &link, &guard.before);
     close_guard(process, fast, &link, &guard);
     return_stored(&process->store, "lock", was->index, lock);
 }

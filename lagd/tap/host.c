@@ -20,7 +20,7 @@ void lose_device(struct plane *plane) {
     tap->device->carrier = false;
     drop_stored(&tap->process->store, "tap", 0);
     if (own->tap >= 0) await_no_more(tap->process->epoll_file, own->tap);
-    (void)say(tap->core->lines, LOG_ERR | ABOUT_CARRIER, "carry %s: the device was deleted, or moved to another namespace; "
+    (void)say(tap->core->printer, LOG_ERR | ABOUT_CARRIER, "carry %s: the device was deleted, or moved to another namespace; "
         "the peers are told, and the daemon ends", tap->settings->carry);
 }
 
@@ -167,7 +167,7 @@ void open_tap_plane(struct plane *plane) {
     CALL(plane->queueing->start, tap);
     need(on_exit(put_back_members, tap) == 0, "on_exit");
     own->tap = open_tap(tap->device, tap->settings->carry, tap->settings->config.mac);
-    stop_device_rps(tap->core->lines, tap->device->index);
+    stop_device_rps(tap->core->printer, tap->device->index);
     CALL(plane->passing->start, tap);
     if (!await_input(tap->process->epoll_file, own->tap, HOST)) stop(REFUSED, "epoll", strerror(errno));
 }

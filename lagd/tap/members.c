@@ -90,7 +90,7 @@ static bool set_up_data(int fd, int index, const struct guard *guard) {
 
 /* Opens a socket of a member; answers it, or -errno. One for all protocols has markers before the filters and bridges of an administrator,
  * which may take frames away there. Where the kernel hands up what comes, nothing comes by that for data. */
-static int open_socket(struct process *process, int device_index, const struct link *link, const struct guard *guard, enum socket_kind kind) {
+static int open_socket_of_kind(struct process *process, int device_index, const struct link *link, const struct guard *guard, enum socket_kind kind) {
     int index = kind == MARKERS ? device_index : link->index;
     struct sockaddr_ll address = {.sll_family = AF_PACKET, .sll_protocol = htons(kind == DIRECT ? ETH_P_SLOW : ETH_P_ALL), .sll_ifindex = index};
     int fd = packet_socket(&process->store, process->inherited, SOCKET_NAMES[kind], link->index, index, SOCK_RAW);
@@ -127,7 +127,7 @@ static void release_member(struct process *process, struct fast_programs *fast, 
 /* Opens the sockets of a member whose programs run; answers 0, or -errno, and then it is no member any more. */
 static int open_sockets_or_release(struct tap_plane *tap, const struct link *link, struct member *member) {
     for (enum socket_kind kind = DATA; kind < (member->guard.fast ? SOCKETS : MARKERS); kind++) {
-        int opened = member->sockets[kind] = open_socket(tap->process, tap->device->index, link, &member->guard, kind);
+        int opened = member->sockets[kind] = open_socket_of_kind(tap->process, tap->device->index, link, &member->guard, kind);
         if (opened >= 0) continue;
         release_member(tap->process, &tap->fast, link, member);
         return opened;
@@ -165,7 +165,7 @@ static bool renew_member(struct tap_plane *tap, struct link *link) {
 }
 
 static bool tell_and_renew(struct tap_plane *tap, struct link *link) {
-    (void)say(tap->core->lines, LOG_NOTICE | ABOUT_DATA, "port %u %s: its queues were changed", link->settings.number, link->name);
+    (void)say(tap->core->printer, LOG_NOTICE | ABOUT_DATA, "port %u %s: its queues were changed", link->settings.number, link->name);
     return renew_member(tap, link);
 }
 
@@ -182,7 +182,7 @@ static bool renew_for_discipline(struct plane *plane, struct link *link) {
     struct member *member = member_of(tap, link);
     if (!is_open(member)) return true;
     if (plane->renews) return renew_member(tap, link);
-    give_fifos_and_note_order(tap->core->lines, plane, link, &member->guard);
+    give_fifos_and_note_order(tap->core->printer, plane, link, &member->guard);
     return set_bypass(member->sockets[DATA], &member->guard);
 }
 
@@ -197,7 +197,7 @@ static void move_member(struct plane *plane, struct link *link, const uint8_t *m
     const struct member *member = member_of(plane->tap, link);
     if (!is_open(member)) return;
     move_kept_queues(plane->tap->process, link, mac);
-    write_kept_file(plane->tap->core->lines, plane->tap->process->folder, link, &member->guard.before);
+    write_kept_member(plane->tap->core->printer, plane->tap->process->folder, link, &member->guard.before);
 }
 
 /* A queueing discipline of an interface changed: where each queue has one of the daemon, others may have put another one there, or taken theirs. */
@@ -241,7 +241,7 @@ static void close_member(struct plane *plane, const struct link *link) {
     release_member(tap->process, &tap->fast, link, member);
 }
 
-static void reset_member(struct plane *plane, const struct link *link) {
+static void clear_member(struct plane *plane, const struct link *link) {
     struct member *member = member_of(plane->tap, link);
     memset(member->counts, 0, sizeof member->counts);
     member->mtu = member->megabits = 0;
@@ -456,15 +456,15 @@ void receive_data_and_changes(struct tap_plane *tap, struct link *link) {
         if (member->sockets[kind] >= 0) receive_packets_and_changes(tap, link, kind);
 }
 
-static int check_tap(struct lines *lines, struct plane *plane UNUSED, const struct options *options) {
-    return access("/dev/net/tun", F_OK) == 0 ? DONE : tell_lack(lines, options, "carry", "there is no /dev/net/tun", REFUSED);
+static int check_tap(struct printer *printer, struct plane *plane UNUSED, const struct options *options) {
+    return access("/dev/net/tun", F_OK) == 0 ? DONE : tell_lack(printer, options, "carry", "there is no /dev/net/tun", REFUSED);
 }
 
 const struct carrying TAP_DEVICE = {
     .open = open_tap_plane, .end = end_tap_plane, .lose_device = lose_device, .keep_device = keep_tap, .leave = leave_tap,
     .give_carrier = give_tap_carrier, .settle_mtu = settle_tap_mtu, .add = open_member, .remove = close_member, .renew = renew_for_discipline,
     .move = move_member, .follow_mtu = follow_member_mtu, .follow_speed = follow_speed, .can_empty = can_empty, .empty = empty_port_and_send,
-    .drain = drain_member, .lose = withdraw_and_drop_answers, .forget = reset_member, .send_marker = withdraw_and_send_new_marker,
+    .drain = drain_member, .lose = withdraw_and_drop_answers, .forget = clear_member, .send_marker = withdraw_and_send_new_marker,
     .note_response = note_response, .settle = choose_move_and_send, .tick = pass_tick_of_frames, .keeps_aggregator = heard_peer_lately,
     .frames_heard = frames_handed_up, .tell_host = set_speed_and_carrier, .resume = resume_conversations, .go_on = settle_carry,
     .member_of = fast_member_of, .end_resuming = release_former_members, .frames_waiting = count_frames_waiting, .check = check_tap,
@@ -477,8 +477,8 @@ const struct queueing ONE_QUEUE = {
     .markers_at_once = 1,
 };
 
-static int check_all_queues(struct lines *lines, struct plane *plane UNUSED, const struct options *options) {
-    return check_programs(lines, options, "queues", false);
+static int check_all_queues(struct printer *printer, struct plane *plane UNUSED, const struct options *options) {
+    return check_programs(printer, options, "queues", false);
 }
 
 const struct queueing ALL_QUEUES = {

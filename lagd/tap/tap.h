@@ -193,9 +193,9 @@ FILE *read_kept(int folder, const struct link *link, const char *kind);
 FILE *begin_kept(int folder, const struct link *link, const char *kind);
 bool end_kept(int folder, const struct link *link, const char *kind, FILE *file, bool done);
 void drop_kept(int folder, const struct link *link, const char *kind);
-void write_kept_file(struct lines *lines, int folder, const struct link *link, const struct kept *kept);
-void merge_kept_file(struct lines *lines, int folder, const struct link *link, struct kept *kept);
-void recall_settings(int folder, const struct link *link, struct kept *kept);
+void write_kept_member(struct printer *printer, int folder, const struct link *link, const struct kept *kept);
+void merge_kept_member(struct printer *printer, int folder, const struct link *link, struct kept *kept);
+void recall_kept_member(int folder, const struct link *link, struct kept *kept);
 
 /* host.c */
 void lose_device(struct plane *plane);
@@ -221,7 +221,7 @@ void drop_classifier(int index);
 
 /* guard.c */
 unsigned count_sending_queues(int index);
-void stop_device_rps(struct lines *lines, int index);
+void stop_device_rps(struct printer *printer, int index);
 void start_all_queues(struct tap_plane *tap);
 bool choose_usual_queues(unsigned *usual, const struct member *members, uint16_t count, unsigned queues);
 bool is_changed_by_others(uint64_t seconds, const struct link *link, const struct guard *guard);
@@ -231,7 +231,7 @@ void keep_from_stack(struct tap_plane *tap, const struct link *link, struct guar
 void run_fast_programs(struct tap_plane *tap, const struct link *link, struct guard *guard);
 bool set_one_queue(struct tap_plane *tap, struct link *link, struct guard *guard, bool again);
 bool set_all_queues(struct tap_plane *tap, struct link *link, struct guard *guard, bool again);
-void give_fifos_and_note_order(struct lines *lines, const struct plane *plane, struct link *link, struct guard *guard);
+void give_fifos_and_note_order(struct printer *printer, const struct plane *plane, struct link *link, struct guard *guard);
 void reopen_guard(struct tap_plane *tap, struct link *link, struct guard *guard);
 void close_guard(struct process *process, struct fast_programs *fast, const struct link *link, struct guard *guard);
 void put_back_former(struct process *process, struct fast_programs *fast, const struct inherited_link *was);

@@ -59,7 +59,7 @@ static void look_at_driver(struct team_plane *team) {
     team->looked_at = team->carry->time;
     if (!ask_interface(team->device->index, NULL, &device) || !read_team(team->family, team->device->index, &now)) {
         if (++team->unseen == MOST_UNSEEN)
-            (void)say(team->core->lines, LOG_WARNING | ABOUT_DATA,
+            (void)say(team->core->printer, LOG_WARNING | ABOUT_DATA,
                 "carry %s: the team driver does not tell what it has, so no bucket goes back to its own port: %s", team->settings->carry,
                 strerror(errno));
         return;
@@ -117,7 +117,7 @@ static void leave_last_aggregator(struct team_plane *team) {
 }
 
 /* The driver refused what it was told of a port, which is taken up anew. Where the kernel has no memory, the next tick tells it again. */
-static void lose_refused_member(struct team_plane *team, uint16_t port, int fault) {
+static void lose_member_if_refused(struct team_plane *team, uint16_t port, int fault) {
     struct link *link = &team->ports->links[port - 1];
     bool is_short = fault == ENOBUFS || fault == ENOMEM;
     char name[IF_NAMESIZE];
@@ -125,14 +125,14 @@ static void lose_refused_member(struct team_plane *team, uint16_t port, int faul
     if (is_short && team->shortages < MOST_SHORTAGES) return;
     team->shortages = 0;
     if (if_indextoname((unsigned)link->index, name)) /* of one that is gone the kernel tells, too */
-        (void)say(team->core->lines, LOG_WARNING | ABOUT_DATA, "port %u %s: the team driver refuses it: %s", port, link->name, strerror(fault));
+        (void)say(team->core->printer, LOG_WARNING | ABOUT_DATA, "port %u %s: the team driver refuses it: %s", port, link->name, strerror(fault));
     lose_link_and_ask_again(team->protocol, link);
 }
 
 static bool set_passing_or_lose_member(struct team_plane *team, uint16_t port, bool wanted) {
     if (team->passes[port - 1] == (wanted ? PASSES : PASSES_NOT)) return true;
     if (!set_port_enabled(team->family, team->device->index, team->ports->links[port - 1].index, wanted)) {
-        lose_refused_member(team, port, errno);
+        lose_member_if_refused(team, port, errno);
         return false;
     }
     team->passes[port - 1] = wanted ? PASSES : PASSES_NOT;
@@ -145,7 +145,7 @@ static bool place_buckets_or_lose_member(struct team_plane *team) {
         uint16_t port = place_conversation(team->carry, number);
         if (port == 0 || port == team->buckets[number].port) continue;
         if (!set_bucket(team->family, team->device->index, number, team->ports->links[port - 1].index)) {
-            lose_refused_member(team, port, errno);
+            lose_member_if_refused(team, port, errno);
             return false;
         }
         if (team->buckets[number].port != 0) team->carry->counts[MOVES]++;

@@ -120,7 +120,7 @@ void give_addresses_or_lose_members(struct team_plane *team) {
         bool differs = team->taken[link - team->ports->links] && memcmp(link->mac, mac, sizeof mac) != 0;
         int fault = differs ? give_address_down_if_busy(link->index, mac) : 0;
         if (fault == 0) continue;
-        (void)say(team->core->lines, LOG_WARNING | ABOUT_DATA, "port %u %s: it does not take the address of %s: %s", link->settings.number,
+        (void)say(team->core->printer, LOG_WARNING | ABOUT_DATA, "port %u %s: it does not take the address of %s: %s", link->settings.number,
             link->name, team->settings->carry, strerror(-fault));
         lose_link_and_ask_again(team->protocol, link);
     }
@@ -237,13 +237,13 @@ static void end_team_plane(struct plane *plane) {
 
 /* Whether the kernel has the team driver, and its mode, which is another module: answers how the program ends. The mode is tried in a network
  * namespace that ends with the program, where that may be made. */
-static int unshare_and_check_team(struct lines *lines, struct plane *plane, const struct options *options) {
+static int unshare_and_check_team(struct printer *printer, struct plane *plane, const struct options *options) {
     struct team_plane *team = plane->team;
     bool is_apart = unshare(CLONE_NEWNET) == 0, has_driver = load_team_driver(&team->family);
-    if (!has_driver && errno == EPERM) return tell_lack(lines, options, "plane", "not known without CAP_NET_ADMIN", DONE);
-    if (!has_driver) return tell_lack(lines, options, "plane", "this kernel has no team driver", REFUSED);
+    if (!has_driver && errno == EPERM) return tell_lack(printer, options, "plane", "not known without CAP_NET_ADMIN", DONE);
+    if (!has_driver) return tell_lack(printer, options, "plane", "this kernel has no team driver", REFUSED);
     if (!is_apart || make_device_to_try_mode(team->family)) return DONE;
-    return tell_lack(lines, options, "plane", "the team driver of this kernel has no mode loadbalance", REFUSED);
+    return tell_lack(printer, options, "plane", "the team driver of this kernel has no mode loadbalance", REFUSED);
 }
 
 const struct carrying TEAM_DEVICE = {

@@ -66,7 +66,7 @@ class Link:
         return frame if frame and frame.number > self.over else None
 
     @property
-    def has_nothing_under_way(self) -> bool:
+    def is_quiet(self) -> bool:
         """Whether the device has said something once, and nothing since the link was taken down, or the device ended."""
         return self.frame is not None and not self.current(self.frame)
 
@@ -255,7 +255,7 @@ class Bench:
         it = self.links[link]
         frame, spoke = it.current(it.frame), it.current(it.spoke)
         if not frame:
-            since = " since it was taken down, or the device ended" if it.has_nothing_under_way else ""
+            since = " since it was taken down, or the device ended" if it.is_quiet else ""
             silent = f"{UNHEARD} was heard on link {link}{since}"
             raise self.stuck(f"what the device sends on link {link} is no LACPDU: {spoke.fault}" if spoke else silent, link)
         return frame
@@ -276,11 +276,11 @@ class Bench:
 
     def carries(self, link: int = 1) -> bool:
         """Whether the device told last that it collects and distributes; it does not where it has said nothing since the link was taken down."""
-        return not self.links[link].has_nothing_under_way and self.bits(link) & CARRIES == CARRIES
+        return not self.links[link].is_quiet and self.bits(link) & CARRIES == CARRIES
 
     def names_us(self, link: int = 1) -> bool:
         """Whether the device told our end last; it did not where it has said nothing since the link was taken down."""
-        return not self.links[link].has_nothing_under_way and self.partner(link).is_named_by(self.device(link))
+        return not self.links[link].is_quiet and self.partner(link).is_named_by(self.device(link))
 
     def is_ready(self, link: int = 1) -> bool:
         """Whether it told last that it carries, beside our end."""

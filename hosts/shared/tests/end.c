@@ -244,6 +244,28 @@ try_the_same(void)
     }
 }
 
+/* A program that follows late asks its partner, which answers at once. */
+static void
+try_late(void)
+{
+    const struct {
+        struct mode own, partner;
+        int pause;
+    } rows[] = { { fast, fast, 25 },         { fast, slow, 25 },         { fast, fast_passive, 25 }, { fast_passive, fast, 25 },
+                 { fast_passive, slow, 25 }, { slow, slow, 350 },        { slow, slow_passive, 350 }, { slow_passive, slow, 350 } };
+    uint32_t why;
+
+    for (size_t i = 0; i < sizeof rows / sizeof *rows; i++) {
+        begin(rows[i].own, rows[i].partner);
+        pause_for(rows[i].pause);
+        check(!remake(rows[i].own, 5, true, &why), "a pause in which LACPDUs are missed: each port goes on");
+        from_here(true);
+        from_there(true);
+        check(heard[0].at == now && heard[1].at == now, "  its partner answers at once");
+        check(pass(200 * SECOND) == 200 * SECOND && tell(rows[i].own), "  no link stops for 200 s");
+    }
+}
+
 static void
 try_refusals(void)
 {
@@ -285,6 +307,7 @@ main(void)
     try_loss();
     try_twice();
     try_the_same();
+    try_late();
     try_refusals();
     lag_end_free(&here);
     niw_free(&there);

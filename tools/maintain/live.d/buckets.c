@@ -142,7 +142,7 @@ NOTHING(count_and_forget_heard, struct carry *carry)
 void set_carrier(struct device *device, bool on) {
     carrier = on;
 }
-bool say(struct lines *lines, int level, const char *format, ...) {
+bool say(struct printer *printer, int level, const char *format, ...) {
     unread_told += strstr(format, "does not tell") != NULL;
     return true;
 }

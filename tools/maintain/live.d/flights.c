@@ -32,7 +32,7 @@ ANSWERS(bool is_fast, is_fast_member, const struct member *member)
 ANSWERS(unsigned count_sending_queues, entries, int index)
 ANSWERS(bool await_input, fd >= 0 && tag == RESPONSES, int epoll_file, int fd, uint32_t tag)
 NOTHING(receive_data_and_changes, struct tap_plane *tap, struct link *link)
-void send_frame(struct core *core, bool *suspected, struct link *link, const uint8_t *frame) {
+void send_frame(struct core *core, bool *carrier_suspected, struct link *link, const uint8_t *frame) {
     answered++;
 }
 

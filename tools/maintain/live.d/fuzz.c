@@ -80,7 +80,7 @@ static void make_ports(void) {
     make_ports_and_system_or_stop(&lagd->protocol);
     if (!mkdtemp(folder) || socketpair(AF_UNIX, SOCK_DGRAM | SOCK_NONBLOCK, 0, wire) < 0) abort();
     (void)atexit(remove_folder);
-    lagd->process.folder = make_status_folder_or_stop(folder);
+    lagd->process.folder = open_status_folder_or_stop(folder);
     open_status_or_stop(&lagd->process, folder);
     lagd->process.has_started = true;
     set_link_send_and_tell(&lagd->protocol, &lagd->ports.links[0], true);
@@ -155,11 +155,11 @@ static void fuzz_state(const uint8_t *octets, size_t length) {
     (void)fwrite(octets, 1, length, file);
     fclose(file);
     lagd->inherited = (struct inherited){0};
-    recall_state_or_leave_device(&lagd->state);
+    recall_state_and_leave_other_device(&lagd->state);
     (void)unlink(name);
     lagd->process.resuming = has_carried_links(&lagd->inherited);
     resume_data(&lagd->protocol, resume(&lagd->protocol));
-    set_links_up_and_end_resuming(&lagd->protocol);
+    bring_up_others_and_send(&lagd->protocol);
 }
 
 /* The kernel gets no question. */
@@ -198,7 +198,7 @@ static void fuzz_messages(const uint8_t *octets, size_t length) {
     uint8_t *messages = malloc(length);
     if (!messages) return;
     memcpy(messages, octets, length);
-    follow_messages_or_end(&lagd->protocol, messages, length);
+    follow_messages_or_stop(&lagd->protocol, messages, length);
     free(messages);
 }
 

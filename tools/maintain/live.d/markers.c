@@ -25,7 +25,7 @@ const char *const program = "markers";
 static const struct queueing OF_ONE_QUEUE = {.markers_at_once = 1};
 
 static uint64_t now = 5 * MINUTE;
-static unsigned said; /* that were said */
+static unsigned said; /* lines */
 static uint32_t last_id = FIRST_ID - 1;
 static unsigned sent, again;
 static bool answered; /* whether the response to the last marker came */
@@ -33,7 +33,7 @@ static bool answered; /* whether the response to the last marker came */
 static const uint8_t OWN[6] = {2, 0, 0, 0, 0, 0xaa}, PARTNER[6] = {2, 0, 0, 0, 0, 0xbb}, STRANGER[6] = {2, 0, 0, 0, 0, 0xcc};
 
 ANSWERS(uint64_t milliseconds, now, void)
-bool say(struct lines *lines, int level, const char *format, ...) {
+bool say(struct printer *printer, int level, const char *format, ...) {
     said++;
     return true;
 }
@@ -143,8 +143,8 @@ static void check_forged(void) {
     CHECK(!respond(STRANGER, 1, last_id) && !respond(PARTNER, 2, last_id) && !respond(STRANGER, 0, 0) && lagd->carry.probe.peer == MUTE);
     for (uint32_t id = 0; id < 1000; id++) CHECK(respond(PARTNER, 1, id) && lagd->carry.probe.peer == MUTE);
     CHECK(said == 1 && lagd->ports.links[0].counts[FOREIGN_RESPONSES] == 3);
-    tell_markers(&lagd->process.lines, lagd->protocol.ticks, &lagd->ports.links[0]);
-    tell_markers(&lagd->process.lines, lagd->protocol.ticks, &lagd->ports.links[0]);
+    tell_markers(&lagd->process.printer, lagd->protocol.ticks, &lagd->ports.links[0]);
+    tell_markers(&lagd->process.printer, lagd->protocol.ticks, &lagd->ports.links[0]);
     CHECK(said == 2);
     CHECK(respond(PARTNER, 1, last_id) && lagd->carry.probe.peer == ANSWERS);
 }

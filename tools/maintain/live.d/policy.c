@@ -185,7 +185,7 @@ bool withdraw_and_repeat_marker(struct tap_plane *tap, uint16_t port) {
     put_slow(end, port, end->marker[port]);
     return true;
 }
-void send_frame(struct core *core, bool *suspected, struct link *link, const uint8_t *frame) {
+void send_frame(struct core *core, bool *carrier_suspected, struct link *link, const uint8_t *frame) {
     struct end *end = end_of(core);
     uint8_t sent[NIW_FRAME];
     memcpy(sent, frame, sizeof sent);
@@ -208,7 +208,7 @@ void put_host(struct tap_plane *tap, uint8_t *packet, size_t length) {
 }
 
 /* lines, and the carrier of the device, */
-ANSWERS(bool say, true, struct lines *lines, int level, const char *format, ...)
+ANSWERS(bool say, true, struct printer *printer, int level, const char *format, ...)
 const char *const SELECTIONS[] = {"", "", "", ""};
 static bool any_distributes(struct lagd *lagd) {
     for (uint16_t port = 1; port <= PORTS; port++)
@@ -270,7 +270,7 @@ static void accept_any(struct tap_plane *tap, struct link *link, const struct ar
 
 /* and what is not here: the settings of the device. */
 NOTHING(count_full_sockets, struct member *members, uint16_t count)
-NOTHING(pass_announcing_tick, struct lines *lines, struct announce *own, const struct device *device)
+NOTHING(pass_announcing_tick, struct printer *printer, struct announce *own, const struct device *device)
 NOTHING(pass_tap_tick, struct device *device)
 NOTHING(announce_soon, struct announce *own)
 ANSWERS(uint32_t sum_speeds, 1000, const struct carry *carry, const struct member *members)

@@ -23,8 +23,8 @@ WENT_ON, NOT_USED = "2 of 2 links go on", "the state that the last daemon left i
 COPIED, RENEWED = 4, 14
 # An end with short timeouts waits so long for an LACPDU, in seconds, and one with long timeouts.
 TIMEOUT, LONG_TIMEOUT = 3, 90
-# What a daemon that comes late has left of that, in seconds.
-REST = 5
+# What a daemon that comes late has left of these, in seconds.
+SHORT_REST, REST = 0.5, 5
 
 
 def state_file(daemon: Daemon) -> str:
@@ -84,9 +84,9 @@ def in_a_row(part: Part) -> None:
         check(WENT_ON in ours.printed() and theirs.printed() == lines, f"handover {turn + 1}: the peer sees nothing", ours.printed(), theirs.printed())
 
 
-def grow_old(ours: Daemon) -> None:
+def grow_old(ours: Daemon, timeout: float = LONG_TIMEOUT, rest: float = REST) -> None:
     """The last LACPDUs of the peer came so long ago that the next daemon has little left of its timeout."""
-    heard = int(1000 * (time.clock_gettime(time.CLOCK_BOOTTIME) - LONG_TIMEOUT + REST))
+    heard = int(1000 * (time.clock_gettime(time.CLOCK_BOOTTIME) - timeout + rest))
     changed(state_file(ours), lambda text: re.sub(r"^(link \d+ \S+ \d+ 1) \d+ ", rf"\1 {heard} ", text, flags=re.M))
 
 
@@ -108,6 +108,25 @@ def comes_late(part: Part) -> None:
     check(theirs.printed() == lines, "and sees nothing", theirs.printed())
     more = [theirs.count(name, "lacpdus_sent") - before for name, before in zip(("b0", "b1"), sent)]
     check(all(1 <= count <= 2 for count in more), f"it was asked once on each link, and sent {more[0]} and {more[1]} LACPDUs", theirs.text())
+
+
+def comes_late_by_short_timeout(part: Part) -> None:
+    """A daemon that has half a second left of a short timeout asks its peer, which sends each second, and has its answer before that is over."""
+    ours, theirs = pair_up(part, "short timeouts: both links come to distribute")
+    for turn in range(4):
+        # The peer's next LACPDUs come in more than what is left.
+        sent = theirs.count("b0", "lacpdus_sent")
+        check(within(2, lambda: theirs.count("b0", "lacpdus_sent") > sent), f"turn {turn + 1}: the peer sends", theirs.text())
+        lines = said(theirs)
+        began = time.monotonic()
+        ours = hand_over(part, ours, lambda: grow_old(ours, TIMEOUT, SHORT_REST))
+        if time.monotonic() - began > SHORT_REST - 0.1:
+            print(f"row: inconclusive, turn {turn + 1}: the machine was too slow", flush=True)
+            both_up(ours, theirs, "both links come up")
+            continue
+        time.sleep(TIMEOUT)
+        check(WENT_ON in ours.printed() and "no LACPDU" not in ours.printed(), f"turn {turn + 1}: it goes on, and hears the peer in time", ours.printed())
+        check(said(theirs) == lines and ours.distributes("a0", "a1"), f"turn {turn + 1}: the peer sees nothing", theirs.printed())
 
 
 def keeps_limit(part: Part) -> None:
@@ -401,5 +420,6 @@ def frozen_disk(part: Part, disk: str) -> None:
 
 PARTS = {"the next daemon goes on": goes_on, "a state beyond a reboot": outlives_boot, "a state beyond a crash": outlives_crash,
          "a disk that hangs": hangs_on_disk,
-         "restarts in a row": in_a_row, "a restart shortly before a timeout": comes_late, "a limit of links through a restart": keeps_limit,
+         "restarts in a row": in_a_row, "a restart shortly before a timeout": comes_late,
+         "a restart shortly before a short timeout": comes_late_by_short_timeout, "a limit of links through a restart": keeps_limit,
          "a state of no use": begins_anew, "what changes between two daemons": things_change}

@@ -66,10 +66,10 @@ static void make_daemon(void) {
     strcpy(lagd->settings.state_dir, folder);
     lagd->settings.config.mac[0] = 2;
     if (add_port(&lagd->settings, "lo", 2) || add_port(&lagd->settings, "gone", 4)) abort();
-    lagd->process.folder = make_status_folder_or_stop(folder);
-    lagd->process.lines.output = open("/dev/null", O_WRONLY);
+    lagd->process.folder = open_status_folder_or_stop(folder);
+    lagd->process.printer.output = open("/dev/null", O_WRONLY);
     broken = open("/proc/self/mem", O_RDONLY);
-    recall_state_or_leave_device(&lagd->state);
+    recall_state_and_leave_other_device(&lagd->state);
     make_ports_and_system_or_stop(&lagd->protocol);
     struct link *link = &lagd->ports.links[0];
     link->index = INDEX;
@@ -91,7 +91,7 @@ static void check_read(const char *text, size_t length, bool fails) {
     const char *end = strstr(text, "\nend") + 4, *moved = strstr(end, "on ");
     bool whole = length >= (size_t)(end - text) && !fails, moves = whole && moved && length > (size_t)(strchr(moved, '\n') - text);
     lagd->inherited = nothing;
-    recall_state_or_leave_device(&lagd->state);
+    recall_state_and_leave_other_device(&lagd->state);
     if (!whole) CHECK(memcmp(&lagd->inherited, &nothing, sizeof nothing) == 0);
     if (!whole) return;
     CHECK(lagd->inherited.port_count == 2 && lagd->inherited.link_count == 1 && lagd->inherited.links[0].carried);
