@@ -45,7 +45,7 @@ static bool tell_refusal(struct printer *printer, const char *path, const char *
 }
 
 /* Reads until the daemon ends the connection; NULL where it does not in time, or refuses, as a line says. */
-static char *read_whole_answer(struct printer *printer, int fd, const char *path) {
+static char *read_whole_answer_or_stop(struct printer *printer, int fd, const char *path) {
     size_t size = PART_OF_ANSWER, used = 0;
     char *whole = malloc(size + 1);
     ssize_t got = 1;
@@ -101,7 +101,7 @@ static void print_who_answers(struct asking *own) {
     print_shown(own->report->text, own->report->length);
 }
 
-static _Noreturn void refuse_all(const struct asking *own) {
+static _Noreturn void refuse_all_and_stop(const struct asking *own) {
     if (own->denied) stop(REFUSED, "permission denied", own->denied);
     stop(REFUSED, "no lagd answers in", own->options->folder);
 }
@@ -142,7 +142,7 @@ static bool ask_one(struct asking *own, struct daemon *daemon) {
     daemon->may_ask = fd != -EACCES && fd != -EPERM;
     if (!daemon->may_ask) own->denied = daemon->path;
     if (fd < 0) complain(own->printer, "%s: its daemon does not answer: %s", daemon->path, strerror(-fd));
-    if (fd >= 0) daemon->answer = read_whole_answer(own->printer, fd, daemon->path);
+    if (fd >= 0) daemon->answer = read_whole_answer_or_stop(own->printer, fd, daemon->path);
     daemon->fd = watched && fd >= 0 ? ask_socket(daemon->path, own->options->json ? "watch-json\n" : "watch\n") : -1;
     return watched ? daemon->fd >= 0 : daemon->answer != NULL;
 }
@@ -155,7 +155,7 @@ static char *tell_order_or_stop(struct asking *own, const char *path, const char
         stop(WRONG_WORD, "expected the name of an interface", interface);
     CLOSED_FILE int fd = ask_socket(path, order);
     if (fd < 0) stop(REFUSED, path, strerror(-fd));
-    answer = read_whole_answer(own->printer, fd, path);
+    answer = read_whole_answer_or_stop(own->printer, fd, path);
     if (answer) answer[strcspn(answer, "\n")] = 0;
     return answer;
 }
@@ -170,7 +170,7 @@ static const char *find_daemon_or_stop(struct asking *own) {
         if (found) stop(WRONG_WORD, "more than one lagd is here: give the folder of one by --folder", own->options->folder);
         found = it->path;
     }
-    if (!found) refuse_all(own);
+    if (!found) refuse_all_and_stop(own);
     return found;
 }
 
@@ -202,7 +202,7 @@ int ask_daemons(struct printer *printer, struct report *report, const struct opt
     if (options->action == ORDER) return order_daemon(&own);
     if (options->action == SHOW_CONFIG) (void)find_daemon_or_stop(&own); /* a file has one bundle */
     EACH_DAEMON(it, &own) answers += ask_one(&own, it);
-    if (answers == 0 && (options->action != METRICS || own.count == 0 || own.denied)) refuse_all(&own);
+    if (answers == 0 && (options->action != METRICS || own.count == 0 || own.denied)) refuse_all_and_stop(&own);
     if (options->action == WATCH) return print_changes_of_all(&own);
     if (options->action == METRICS) {
         print_metrics(&own);

@@ -114,7 +114,7 @@ static void lose_interface(struct protocol *protocol, struct link *link) {
 }
 
 /* An interface is there. A port goes by its name, and the TAP device by its number. */
-static void follow_present(struct protocol *protocol, const struct interface *interface) {
+static void follow_present_or_stop(struct protocol *protocol, const struct interface *interface) {
     bool known = false;
     if (interface->index == protocol->device->index) {
         protocol->changes.tap_named = true;
@@ -188,7 +188,7 @@ static void follow_change_or_stop(struct protocol *protocol, const struct nlmsgh
         note_and_ask_discipline(own, protocol->ports, protocol->device->index, discipline);
     if ((type != RTM_NEWLINK && type != RTM_DELLINK) || length < sizeof *info || info->ifi_family != AF_UNSPEC) return;
     struct interface interface = read_interface(message);
-    if (type == RTM_NEWLINK && interface.name[0]) follow_present(protocol, &interface);
+    if (type == RTM_NEWLINK && interface.name[0]) follow_present_or_stop(protocol, &interface);
     if (type == RTM_DELLINK) lose_and_forget_absent(protocol, &interface);
 }
 
@@ -200,7 +200,7 @@ void follow_messages_or_stop(struct protocol *protocol, const void *messages, si
 
 /* Takes what the kernel told, up to its end. Where it had no room for some, it says so, and all is asked again, and queues are seen anew. Any program
  * of the machine may send to this socket, too: what does not come from the kernel is not looked at. */
-void receive_changes(struct protocol *protocol) {
+void receive_changes_or_stop(struct protocol *protocol) {
     struct changes *own = &protocol->changes;
     _Alignas(struct nlmsghdr) uint8_t room[ROOM];
     for (int turn = 0; turn < MOST_TAKEN; turn++) {
@@ -255,7 +255,7 @@ void read_and_follow_carriers(struct protocol *protocol, bool tick) {
         if (changed || (link->socket >= 0 && choose_aggregator_and_whether_waited(protocol, link)))
             any = ask_for(&protocol->changes, link->index, 0) || any;
     }
-    if (any) receive_changes(protocol);
+    if (any) receive_changes_or_stop(protocol);
 }
 
 int open_and_follow_changes_or_stop(struct protocol *protocol) {
@@ -267,7 +267,7 @@ int open_and_follow_changes_or_stop(struct protocol *protocol) {
         if (!own->asking) stop(REFUSED, "the kernel takes no question", strerror(errno));
         if (poll(&(struct pollfd){mnl_socket_get_fd(own->route), POLLIN, 0}, 1, PATIENCE) != 1) stop(REFUSED, "no answer", "interfaces");
         if (own->asked > MOST_ASKED) stop(REFUSED, "no whole answer", "interfaces");
-        receive_changes(protocol);
+        receive_changes_or_stop(protocol);
     }
     return mnl_socket_get_fd(own->route);
 }

@@ -22,7 +22,7 @@ struct control {
 };
 
 /* options.c */
-void read_options(struct process *process, int argc, char **argv, struct options *options);
+void read_options_or_stop(struct process *process, int argc, char **argv, struct options *options);
 
 /* possible.c */
 int choose_plane_and_check(struct printer *printer, struct plane *plane, const struct options *options);

@@ -175,7 +175,7 @@ static bool attach_tap(int fd, const char *name) {
 /* Makes the device, or takes one that is there and that nobody has, as that of the last daemon, which may have another name now; answers whether
  * it is that one. A device that was made is gone when the daemon ends, unless the next one goes on. Where it gets the number of the last daemon's,
  * the namespace was made anew, too. */
-static bool take_or_make_tap(struct device *own, const char *name) {
+static bool take_or_make_tap_or_stop(struct device *own, const char *name) {
     const struct inherited *inherited = own->process->inherited;
     char room[IF_NAMESIZE];
     const char *used = inherited->persists && if_indextoname((unsigned)inherited->tap, room) ? room : name;
@@ -189,12 +189,12 @@ static bool take_or_make_tap(struct device *own, const char *name) {
 }
 
 /* Opens the device. Its carrier stays where the data of the last daemon goes on, and so do frames that wait there, unless they are old. */
-int open_tap(struct device *own, const char *name, const uint8_t *mac) {
+int open_tap_or_stop(struct device *own, const char *name, const uint8_t *mac) {
     own->asker = socket(AF_UNIX, SOCK_DGRAM | SOCK_CLOEXEC, 0);
     if (own->asker < 0) stop(REFUSED, "no TAP device", strerror(errno));
     const struct inherited *inherited = own->process->inherited;
     uint8_t scrap[ETH_HLEN];
-    bool was_stored = take_stored_tap(own, name), goes_on = was_stored ? own->index == inherited->tap : take_or_make_tap(own, name);
+    bool was_stored = take_stored_tap(own, name), goes_on = was_stored ? own->index == inherited->tap : take_or_make_tap_or_stop(own, name);
     own->carrier = true; /* which older kernels set of a device that is made */
     if (!was_stored || !goes_on || !own->process->resuming) set_carrier(own, false);
     bool is_old = was_stored && !was_away_briefly(inherited);

@@ -22,7 +22,7 @@ struct device {
 
 /* device.c */
 void follow_tap(struct device *own, bool has_carrier, const char *discipline);
-int open_tap(struct device *own, const char *name, const uint8_t *mac);
+int open_tap_or_stop(struct device *own, const char *name, const uint8_t *mac);
 void use_team_device_or_stop(struct device *own, int index);
 bool give_tap_carrier(const struct plane *plane, bool on);
 void settle_tap_mtu(struct device *own);

@@ -466,7 +466,7 @@ void limit_links(struct protocol *protocol, uint16_t most);
 
 /* changes.c */
 int open_and_follow_changes_or_stop(struct protocol *protocol);
-void receive_changes(struct protocol *protocol);
+void receive_changes_or_stop(struct protocol *protocol);
 void follow_messages_or_stop(struct protocol *protocol, const void *messages, size_t length);
 void ask_again_if_due(struct changes *own, struct ports *ports);
 void lose_link_and_ask_again(struct protocol *protocol, struct link *link);
@@ -587,7 +587,7 @@ uint32_t program_keeper(int attached);
 #define READY "READY=1\n"
 void notify(const char *what);
 void notify_bundle(const struct bundle *bundle, const char *what);
-void receive_stored(struct process *process);
+void receive_stored_or_stop(struct process *process);
 bool has_store(void);
 void put_stored(const struct store *own, const char *kind, int number, int fd);
 int claim_stored(struct store *own, const char *kind, int number);

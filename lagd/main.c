@@ -186,7 +186,7 @@ static bool serve_signal(struct lagd *lagd, int signals_fd, const char *file) {
 /* What came in a turn, the clock after the frames that waited. */
 static void serve(struct lagd *lagd, const struct epoll_event *events, int count, int clock_fd) {
     bool tick = is_ready(events, count, CLOCK);
-    if (is_ready(events, count, CHANGES)) receive_changes(&lagd->protocol);
+    if (is_ready(events, count, CHANGES)) receive_changes_or_stop(&lagd->protocol);
     serve_all_frames(&lagd->protocol, events, count);
     serve_all_data(&lagd->tap, events, count);
     for (int i = 0; i < count; i++)
@@ -243,7 +243,7 @@ static int run_daemon(struct lagd *lagd, const struct options *options) {
     need(lagd->process.epoll_file >= 0, "epoll");
     if (lagd->settings.system_auto) read_auto_system_mac_or_stop(&lagd->settings);
     lagd->process.folder = open_status_folder_or_stop(options->folder);
-    receive_stored(&lagd->process);
+    receive_stored_or_stop(&lagd->process);
     choose_plane(&lagd->plane, &lagd->settings);
     recall_state_and_leave_other_device(&lagd->state);
     make_ports_and_system_or_stop(&lagd->protocol);
@@ -279,7 +279,7 @@ int main(int argc, char **argv) {
     struct options options;
     lagd = make_lagd();
     open_closed_standard_files();
-    read_options(&lagd->process, argc, argv, &options);
+    read_options_or_stop(&lagd->process, argc, argv, &options);
     if (options.action == RUN_BUNDLE) return run_daemon(lagd, &options);
     if (options.action == CHECK) return choose_plane_and_check(&lagd->process.printer, &lagd->plane, &options);
     return ask_daemons(&lagd->process.printer, lagd->control.report, &options);

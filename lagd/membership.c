@@ -190,7 +190,8 @@ static bool has_nothing_under_way(struct core *core, const struct link *link) {
         && is_told(core, niw_held(&core->system, link->settings.number), "niw_held", &held) && held == 0;
 }
 
-/* Notes whether a port has left: nothing is under way there, and was so while its peer may ask for responses to its markers, or it was waited for long enough. */
+/* Notes whether a port has left: nothing is under way there, and was so while its peer may ask for responses to its markers, or it was waited for
+ * long enough. */
 static bool note_whether_left(struct core *core, struct link *link) {
     uint64_t now = milliseconds(), most = core->settings->flight > MOST_WAIT ? core->settings->flight : MOST_WAIT;
     if (!link->up) return true;

@@ -189,7 +189,7 @@ static void read_letters_or_stop(struct words *words, struct options *options, i
 }
 
 /* Reads the command line, and the file that it names. */
-void read_options(struct process *process, int argc, char **argv, struct options *options) {
+void read_options_or_stop(struct process *process, int argc, char **argv, struct options *options) {
     static const unsigned no_lines[MOST_BUNDLE_KEYS];
     *options = (struct options){.folder = "/run/lagd", .settings = usual_settings()};
     read_letters_or_stop(&process->words, options, argc, argv);

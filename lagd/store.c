@@ -115,7 +115,7 @@ static void empty_store(int status UNUSED, void *given) {
     EACH_STORED(it, &process->store) tell_store("FDSTOREREMOVE", it->name, -1);
 }
 
-void receive_stored(struct process *process) {
+void receive_stored_or_stop(struct process *process) {
     struct store *own = &process->store;
     char **names = NULL;
     int found = sd_listen_fds_with_names(1, &names);

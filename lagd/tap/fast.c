@@ -63,7 +63,7 @@ static void begin_tables(struct fast_programs *own, uint16_t ports) {
     own->host->overflowed = own->host->unfit = 0;
 }
 
-static void start_fast(struct tap_plane *tap) {
+static void start_fast_or_stop(struct tap_plane *tap) {
     struct fast_programs *own = &tap->fast;
     struct fast_maps maps;
     int device = tap->device->index;
@@ -220,7 +220,7 @@ int fast_member_of(const struct plane *plane, uint16_t number) {
 }
 
 /* The kernel goes on passing what stays on its port, and nothing else of what it passed on for the last daemon. */
-static void resume_fast(struct tap_plane *tap) {
+static void resume_fast_or_end(struct tap_plane *tap) {
     bool any = false;
     EACH_CONVERSATION(conversation, tap->carry) {
         struct fast_row *row = row_of(tap, conversation);
@@ -237,7 +237,7 @@ static void resume_fast(struct tap_plane *tap) {
 }
 
 /* Takes back what is no longer on the port where the kernel passes it on, before a marker goes there; all, where the library does not tell. */
-static void withdraw_moved(struct tap_plane *tap) {
+static void withdraw_moved_or_end(struct tap_plane *tap) {
     bool told = ask_ports(tap->core, tap->carry->active, tap->carry->port_of);
     EACH_CONVERSATION(conversation, tap->carry) {
         uint16_t port = conversation->fast.port, now = told ? tap->carry->port_of[number_in(tap->carry, conversation)] : 0;
@@ -258,7 +258,7 @@ static void withdraw_port_or_end(struct tap_plane *tap, uint16_t port) {
 
 /* The TAP device has this queueing discipline now. One that may hold frames holds them behind the program that counts them, where nobody
  * sees them, and would not have what the kernel passes on: with it the daemon has all data. */
-static void withdraw_by_discipline(struct tap_plane *tap, const char *discipline) {
+static void withdraw_by_discipline_or_end(struct tap_plane *tap, const char *discipline) {
     struct fast_programs *own = &tap->fast;
     bool holds = !keeps_order(discipline) && strcmp(discipline, "pfifo_fast") != 0
         && strcmp(discipline, "noop") != 0; /* it has that one until it is up */
@@ -342,20 +342,20 @@ static bool suspect_row(const struct fast_row *row, struct conversation *convers
 }
 
 /* Takes back what rests for a flight: towards a peer that answers no markers it is free then, and no frame of it may pass meanwhile. */
-static void withdraw_resting(struct tap_plane *tap) {
+static void withdraw_resting_or_end(struct tap_plane *tap) {
     EACH_CONVERSATION(conversation, tap->carry)
         if (conversation->fast.port != 0 && !conversation->used && tap->carry->time - conversation->last >= tap->settings->flight)
             drop_row_member(row_of(tap, conversation));
     wait_and_withdraw_or_end(tap);
 }
 
-static void pass_fast_tick(struct tap_plane *tap) {
+static void pass_fast_tick_or_end(struct tap_plane *tap) {
     bool any = false;
     (void)read_tap_mac(tap->device, (uint8_t *)&tap->fast.host->mac);
-    withdraw_moved(tap);
+    withdraw_moved_or_end(tap);
     open_host(tap, has_carrier(tap->device));
     count_fast_frames_and_follow_peer(tap);
-    if (tap->carry->probe.peer == MUTE) withdraw_resting(tap);
+    if (tap->carry->probe.peer == MUTE) withdraw_resting_or_end(tap);
     EACH_CONVERSATION(conversation, tap->carry) {
         struct fast_row *row = row_of(tap, conversation);
         subtract_segments(row, take_count(&row->overflowed), &conversation->fast.suspected);
@@ -369,8 +369,8 @@ static int check_fast(struct printer *printer, struct plane *plane UNUSED, const
 }
 
 const struct passing BY_KERNEL = {
-    .check = check_fast, .start = start_fast, .end = end_fast, .set_up_device = give_no_queue, .run_programs = run_fast_programs,
-    .count = count_fast_frames_and_follow_peer, .withdraw = withdraw_moved, .withdraw_port_or_end = withdraw_port_or_end, .pass_on = pass_on,
-    .note_read = subtract_read_and_lost, .open_host = open_host, .follow_discipline = withdraw_by_discipline,
-    .set_collecting = set_collecting, .read_host = read_host_and_send, .tick = pass_fast_tick, .resume = resume_fast, .steers = true,
+    .check = check_fast, .start = start_fast_or_stop, .end = end_fast, .set_up_device = give_no_queue, .run_programs = run_fast_programs,
+    .count = count_fast_frames_and_follow_peer, .withdraw = withdraw_moved_or_end, .withdraw_port_or_end = withdraw_port_or_end, .pass_on = pass_on,
+    .note_read = subtract_read_and_lost, .open_host = open_host, .follow_discipline = withdraw_by_discipline_or_end,
+    .set_collecting = set_collecting, .read_host = read_host_and_send, .tick = pass_fast_tick_or_end, .resume = resume_fast_or_end, .steers = true,
 };

@@ -111,7 +111,7 @@ static bool restore_line(int index, const char *what, const char *line, bool if_
 }
 
 /* Loads the program that chooses queues, while the daemon may, and opens what wakes it for responses. */
-void start_all_queues(struct tap_plane *tap) {
+void start_all_queues_or_stop(struct tap_plane *tap) {
     char reason[REASON_ROOM];
     int fault = try_to_attach_program(tap->settings);
     if (fault != 0) stop(REFUSED, "queues=all: no program of an interface, which Linux has from 6.6 on", strerror(-fault));

@@ -36,7 +36,7 @@ static size_t slot_octets(size_t room) {
 }
 
 /* Takes all memory. Its pages are in use once they are written. */
-void start_held(struct core *core, struct held *own) {
+void start_held_or_stop(struct core *core, struct held *own) {
     own->small = (struct pool){.octets = slot_octets(SMALL_ROOM), .most = MOST_WAIT};
     own->large = (struct pool){.octets = slot_octets(packet_room()), .most = MOST_LARGE};
     size_t before = own->small.octets * MOST_WAIT, behind = own->large.octets * MOST_LARGE;

@@ -155,18 +155,18 @@ void withdraw_and_drop_answers(struct plane *plane, const struct link *link) {
     tap->answers[link - tap->ports->links].count = 0; /* whoever asked there asks again */
 }
 
-void open_tap_plane(struct plane *plane) {
+void open_tap_plane_or_stop(struct plane *plane) {
     struct tap_plane *tap = plane->tap;
     struct host *own = &tap->host;
-    own->packets = make_rooms();
-    own->segments = make_rooms();
-    own->rooms = make_rooms();
-    start_held(tap->core, &tap->held);
-    tap->rooms = make_rooms();
+    own->packets = make_rooms_or_stop();
+    own->segments = make_rooms_or_stop();
+    own->rooms = make_rooms_or_stop();
+    start_held_or_stop(tap->core, &tap->held);
+    tap->rooms = make_rooms_or_stop();
     tap->dropper = load_program(tap->settings, "dropper", NULL, NULL);
     CALL(plane->queueing->start, tap);
     need(on_exit(put_back_members, tap) == 0, "on_exit");
-    own->tap = open_tap(tap->device, tap->settings->carry, tap->settings->config.mac);
+    own->tap = open_tap_or_stop(tap->device, tap->settings->carry, tap->settings->config.mac);
     stop_device_rps(tap->core->printer, tap->device->index);
     CALL(plane->passing->start, tap);
     if (!await_input(tap->process->epoll_file, own->tap, HOST)) stop(REFUSED, "epoll", strerror(errno));

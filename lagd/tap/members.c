@@ -432,7 +432,7 @@ static void receive_packets_and_changes(struct tap_plane *tap, struct link *link
         member->counts[WRONG_LENGTH]++;
     }
     if (got <= 0) return;
-    receive_changes(tap->protocol);
+    receive_changes_or_stop(tap->protocol);
     tap->carry->taken += (unsigned)got;
     if (got == BATCH) tap->carry->more_waits = true;
     for (int i = 0; i < got; i++) accept_packet(tap, link, &messages[i], kind != DATA);
@@ -461,7 +461,7 @@ static int check_tap(struct printer *printer, struct plane *plane UNUSED, const 
 }
 
 const struct carrying TAP_DEVICE = {
-    .open = open_tap_plane, .end = end_tap_plane, .lose_device = lose_device, .keep_device = keep_tap, .leave = leave_tap,
+    .open = open_tap_plane_or_stop, .end = end_tap_plane, .lose_device = lose_device, .keep_device = keep_tap, .leave = leave_tap,
     .give_carrier = give_tap_carrier, .settle_mtu = settle_tap_mtu, .add = open_member, .remove = close_member, .renew = renew_for_discipline,
     .move = move_member, .follow_mtu = follow_member_mtu, .follow_speed = follow_speed, .can_empty = can_empty, .empty = empty_port_and_send,
     .drain = drain_member, .lose = withdraw_and_drop_answers, .forget = clear_member, .send_marker = withdraw_and_send_new_marker,
@@ -482,7 +482,7 @@ static int check_all_queues(struct printer *printer, struct plane *plane UNUSED,
 }
 
 const struct queueing ALL_QUEUES = {
-    .check = check_all_queues, .start = start_all_queues, .fifos_of = count_sending_queues, .set = set_all_queues, .follow = follow_member_queues,
-    .watch = watch_queues, .mark = mark_conversation, .send_marker = send_by_queues, .accept_response = accept_response_of_queue,
-    .answer = answer_later, .show = show_queues, .text = ", all queues", .markers_at_once = MARKERS_AT_ONCE,
+    .check = check_all_queues, .start = start_all_queues_or_stop, .fifos_of = count_sending_queues, .set = set_all_queues,
+    .follow = follow_member_queues, .watch = watch_queues, .mark = mark_conversation, .send_marker = send_by_queues,
+    .accept_response = accept_response_of_queue, .answer = answer_later, .show = show_queues, .text = ", all queues", .markers_at_once = MARKERS_AT_ONCE,
 };

@@ -26,7 +26,7 @@ static size_t room_octets(void) {
 }
 
 /* Room for as many packets as are taken at once, each with TAG_OCTETS before it. The pages of it are in memory once they are used. */
-uint8_t *make_rooms(void) {
+uint8_t *make_rooms_or_stop(void) {
     size_t size = BATCH * room_octets();
     uint8_t *rooms = mmap(NULL, size, PROT_READ | PROT_WRITE, MAP_PRIVATE | MAP_ANONYMOUS, -1, 0);
     if (rooms == MAP_FAILED) stop(REFUSED, "no room for frames", strerror(errno));

@@ -201,7 +201,7 @@ void recall_kept_member(int folder, const struct link *link, struct kept *kept);
 void lose_device(struct plane *plane);
 void serve_settle_and_send(struct tap_plane *tap, uint32_t tag);
 void withdraw_and_drop_answers(struct plane *plane, const struct link *link);
-void open_tap_plane(struct plane *plane);
+void open_tap_plane_or_stop(struct plane *plane);
 void end_tap_plane(struct plane *plane);
 void read_host_and_send(struct tap_plane *tap);
 bool is_cutting(const struct core *core, const struct host *host);
@@ -222,7 +222,7 @@ void drop_classifier(int index);
 /* guard.c */
 unsigned count_sending_queues(int index);
 void stop_device_rps(struct printer *printer, int index);
-void start_all_queues(struct tap_plane *tap);
+void start_all_queues_or_stop(struct tap_plane *tap);
 bool choose_usual_queues(unsigned *usual, const struct member *members, uint16_t count, unsigned queues);
 bool is_changed_by_others(uint64_t seconds, const struct link *link, const struct guard *guard);
 void move_kept_queues(struct process *process, struct link *link, const uint8_t *mac);
@@ -259,7 +259,7 @@ struct niw_number conversation_of(struct protocol *protocol, const uint8_t *fram
 #define ALL_TAGS SIZE_MAX
 size_t head_octets(void);
 size_t packet_room(void);
-uint8_t *make_rooms(void);
+uint8_t *make_rooms_or_stop(void);
 uint8_t *room_at(uint8_t *rooms, unsigned number);
 bool has_segments(const uint8_t *packet);
 uint32_t count_segments(const uint8_t *packet, size_t length);
@@ -293,7 +293,7 @@ void clear_fast_place(struct fast_programs *own, const struct link *link);
 int fast_member_of(const struct plane *plane, uint16_t number);
 
 /* held.c */
-void start_held(struct core *core, struct held *own);
+void start_held_or_stop(struct core *core, struct held *own);
 void end_held(struct core *core, struct held *own);
 bool count_held(struct core *core, struct held *own, uint16_t number, uint64_t *waiting) MUST_USE;
 bool none_held(struct core *core, struct held *own, uint16_t number);

@@ -206,7 +206,7 @@ static void release_team(int status UNUSED, void *given) {
     team->opened = false;
 }
 
-static void open_team(struct plane *plane) {
+static void open_team_or_stop(struct plane *plane) {
     struct team_plane *team = plane->team;
     const char *name = team->settings->carry;
     const uint8_t *mac = team->settings->config.mac;
@@ -247,7 +247,7 @@ static int unshare_and_check_team(struct printer *printer, struct plane *plane, 
 }
 
 const struct carrying TEAM_DEVICE = {
-    .open = open_team, .end = end_team_plane, .lose_device = lose_device, .leave = leave_team, .give_carrier = give_team_carrier,
+    .open = open_team_or_stop, .end = end_team_plane, .lose_device = lose_device, .leave = leave_team, .give_carrier = give_team_carrier,
     .add = open_team_port, .remove = close_team_port, .see_port = is_still_team_port, .settle = settle_team, .tick = pass_tick_of_team,
     .keeps_aggregator = heard_peer_lately, .frames_heard = team_frames_received, .resume = resume_conversations, .go_on = choose_ports_and_tell_host,
     .member_of = bucket_member_of, .end_resuming = release_former_members, .check = unshare_and_check_team, .show = show_carry,

@@ -117,7 +117,7 @@ static void check_large(void) {
 
 int main(void) {
     join_parts(lagd);
-    start_held(&lagd->core, &lagd->tap.held);
+    start_held_or_stop(&lagd->core, &lagd->tap.held);
     check_order();
     for (unsigned times = 0; times < 2; times++) {
         check_refused(false);

@@ -320,7 +320,7 @@ static void make_end(struct end *end, uint8_t which) {
         end->wires[i + 1].delay = 20;
     }
     CHECK(niw_new(&lagd->core.system, &lagd->settings.config, keys, KEYS, ports, PORTS).status == NIW_OK);
-    start_held(&lagd->core, &lagd->tap.held);
+    start_held_or_stop(&lagd->core, &lagd->tap.held);
     end->next_tick = now + below(TICK);
 }
 
