@@ -89,12 +89,10 @@ static void send_due_of(struct protocol *protocol, struct link *link) {
     }
 }
 
-/* Sends what is due: after each call that may change anything, since one about a port may make a frame due on another. Where that says that a port
- * is out of use, its peer takes no data behind it: the kernel passes none on there any more, before it goes. */
+/* Sends what is due: after each call that may change anything, since one about a port may make a frame due on another. */
 void send_due(struct protocol *protocol) {
     uint64_t due;
     if (protocol->process->resuming || !is_told(protocol->core, niw_due(&protocol->core->system), "niw_due", &due)) return;
-    if (due != 0) CALL(protocol->plane->passing->withdraw, protocol->plane->tap);
     for (uint16_t i = 0; i < protocol->ports->count; i++)
         if (due >> i & 1) send_due_of(protocol, &protocol->ports->links[i]);
 }
