@@ -96,8 +96,10 @@ def test_where_nothing_is_made_the_others_still_end(monkeypatch: pytest.MonkeyPa
 
 
 def test_the_end_has_the_longest_first_and_tells_what_did_not_run() -> None:
-    ended = [check.Ended("pages", "passed", 6.0, "1 passed, 0 failed"), check.Ended("live", "FAILED", 600.0, ""), check.Ended("carry", "not run", 0.1, "")]
-    assert check.summary(ended) == ["  10.0 min  FAILED   live", "   0.1 min  passed   pages", "   0.0 min  not run  carry", "1 passed, 1 failed, 1 not run"]
+    ended = [check.Ended("pages", "passed", 6.0, 3.0, "1 passed, 0 failed"), check.Ended("live", "FAILED", 600.0, 1200.0, ""),
+             check.Ended("carry", "not run", 0.1, 0.0, "")]
+    assert check.summary(ended) == ["  10.0 min   20.0 of a processor  FAILED   live", "   0.1 min    0.1 of a processor  passed   pages",
+                                    "   0.0 min    0.0 of a processor  not run  carry", "1 passed, 1 failed, 1 not run"]
     assert check.summary(ended[:1]) == ["1 passed, 0 failed"]
 
 
