@@ -260,6 +260,8 @@ try_late(void)
         pause_for(rows[i].pause);
         check(!remake(rows[i].own, 5, true, &why), "a pause in which LACPDUs are missed: each port goes on");
         from_here(true);
+        bool paced = told[0][LAG_PARTNER_STATE] & told[1][LAG_PARTNER_STATE] & NIW_STATE_TIMEOUT;
+        check(paced == (rows[i].own.active || !rows[i].partner.short_timeout), "  until it answers it is sent an LACPDU each second, but by a passive port");
         from_there(true);
         check(heard[0].at == now && heard[1].at == now, "  its partner answers at once");
         check(pass(200 * SECOND) == 200 * SECOND && tell(rows[i].own), "  no link stops for 200 s");
