@@ -1,6 +1,9 @@
 /* Which aggregator carries the data, and by which ports. */
 #include "carry.h"
 
+/* How long data waits for a partner to say that it collects, in milliseconds: it says so as soon as it does. */
+#define COLLECTS_WITHIN 1000
+
 /* For how long frames of the peer tell that it has the same aggregator, in milliseconds. */
 #define HEARD 3000
 
@@ -69,6 +72,23 @@ static void note_active_ports(struct carry *carry, bool emptying) {
             carry->active_ports[carry->active_count++] = link->settings.number;
 }
 
+/* Notes since when the partner of each port that distributes is to say that it collects: it learns by our LACPDU that it has to. */
+static void note_partners_to_collect(struct carry *carry) {
+    EACH_LINK_AS_IS(link, carry->ports) {
+        const struct niw_view *view = &link->view;
+        uint64_t *since = &carry->to_collect_since[link->settings.number - 1];
+        bool due = (view->state & NIW_STATE_DISTRIBUTING) != 0 && !view->defaulted && (view->partner_state & NIW_STATE_COLLECTING) == 0;
+        if (!due || *since == 0) *since = due ? carry->time : 0;
+    }
+}
+
+/* Whether what goes on a port now may come before its partner took the LACPDU by which it collects. One that does not say so in time is believed
+ * to collect. */
+bool awaits_collecting(const struct carry *carry, uint16_t port) {
+    uint64_t since = carry->to_collect_since[port - 1];
+    return since != 0 && carry->time - since < COLLECTS_WITHIN;
+}
+
 /* Chooses by what the ports are now: the aggregator that carries the data is that of the bundle, unless that is down. */
 void choose_ports_and_tell_host(struct plane *plane) {
     struct carry *carry = plane->carry;
@@ -77,6 +97,7 @@ void choose_ports_and_tell_host(struct plane *plane) {
     read_views_and_count(carry->core, carry->ports);
     choose_aggregator(carry->protocol, &now);
     carry->active = now.carrying >= carry->settings->min_links ? now.aggregator : 0;
+    note_partners_to_collect(carry);
     note_active_ports(carry, false);
     if (carry->active_count == 0) note_active_ports(carry, true); /* while there is no other */
     if (before != 0 && carry->active != 0 && before != carry->active) carry->counts[SWITCHES]++;

@@ -68,6 +68,7 @@ struct carry {
     uint16_t active;               /* the aggregator whose ports carry the data, or 0 */
     uint16_t active_ports[NIW_MOST_PORTS]; /* of it, those that distribute */
     uint16_t active_count;
+    uint64_t to_collect_since[NIW_MOST_PORTS]; /* the time that saw each port distribute first whose partner does not say that it collects; or 0 */
     uint16_t port_of[CONVERSATIONS]; /* of each conversation in it, as ask_ports told last: 0 where it is free or held there */
     unsigned taken;                /* frames that came in this turn */
     bool more_waits;               /* whether a socket may have more */
@@ -101,6 +102,7 @@ bool is_held(const struct niw_assignment *state);
 bool is_busy(const struct carry *carry, const struct conversation *conversation);
 bool heard_peer_lately(const struct plane *plane);
 void count_and_forget_heard(struct carry *carry);
+bool awaits_collecting(const struct carry *carry, uint16_t port);
 bool leave_previous(struct carry *carry);
 void choose_ports_and_tell_host(struct plane *plane);
 void begin_carry_tick_and_announce(struct carry *carry);

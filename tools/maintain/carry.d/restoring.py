@@ -7,6 +7,7 @@ import time
 from typing import Callable
 
 from bonds import COMES_UP, RATE, End, Event, Programs, cables, check_end, check_order, check_whole, pair, run_flows
+from changing import order
 from checking import Failed, check, within
 from spaces import OURS, THEIRS, ip
 
@@ -138,6 +139,30 @@ def two_limits(programs: Programs) -> None:
         check_order(run_flows(programs, 2), "with a limit at both ends", ends[0].text())
 
 
+# A link that is used again is attached after 2 s: the peer stands still a bit before, and goes on at one of these seconds of the flows. What goes there
+# before is lost in its kernel; without `fast` it waits in its sockets.
+BEFORE_ATTACHED, SOON, LATER = 1.4, 0.3, 1.3
+STANDS_STILL: tuple[tuple[list[str], float], ...] = (([], SOON), (["--fast"], SOON), (["--fast"], LATER))
+
+
+def collects(programs: Programs) -> None:
+    """The peer stands still as a link is used again, so it does not collect there yet: what is to go there waits for that, but for a second at most."""
+    for way, goes_on in STANDS_STILL:
+        with pair(programs, options=way) as (_, ours, theirs):
+            check(order(ours, "--hold", "a1").returncode == 0 and within(3, lambda: theirs.links() == 1), "a link is out of use", theirs.text())
+            used = order(ours, "--release", "a1").returncode == 0
+            time.sleep(BEFORE_ATTACHED)
+            theirs.process.send_signal(signal.SIGSTOP)
+            check(used and within(2, lambda: ours.links() == 2), "it is used again, while the peer stands still", ours.text())
+            outcome = run_flows(programs, 5, [(goes_on, lambda: theirs.process.send_signal(signal.SIGCONT))])
+            check(within(COMES_UP, lambda: theirs.links() == 2), "the peer uses it, too", theirs.text())
+            check_order(outcome, f"a peer goes on after {goes_on} s {way}", ours.text())
+            lost = theirs.data("uncollected")
+            told = f"{lost} of {outcome.sent:,} frames come there before it collects"
+            check((lost > 0) == (goes_on == LATER), told, outcome, ours.text(), theirs.text())
+            check_end(ours, "the sending end")
+
+
 AWAY = "its carrier is away, for less than delay-down so far"
 # For how many milliseconds a carrier may be away.
 DELAY = 2500
@@ -197,4 +222,4 @@ def spared(programs: Programs) -> None:
             check(within(0.6, lambda: statuses(ours)[1] == "the interface is missing"), "it may vanish meanwhile", ours.text())
 
 
-PARTS: dict[str, Callable[[Programs], None]] = {it.__name__: it for it in (restores, spared, reverts, reverts_there, two_limits)}
+PARTS: dict[str, Callable[[Programs], None]] = {it.__name__: it for it in (restores, spared, reverts, reverts_there, two_limits, collects)}
