@@ -137,23 +137,24 @@ def below(*names: str) -> list[str]:
     return found
 
 
-def commit() -> str | None:
-    """The commit whose sources these are; None where they are of none, or there is no git."""
-    wanted = ["git", "rev-parse", "HEAD"], ["git", "status", "--porcelain"]
+def tested_sources() -> str | None:
+    """What git names the sources that the test command reads; None where they are of no commit, or there is no git."""
+    its = ("crates", "crates.txt", "HANDLES")
+    wanted = ["git", "rev-parse", *(f"HEAD:{it}" for it in its)], ["git", "status", "--porcelain", "--", *its]
     try:
         asked = [subprocess.run(words, cwd=TOP, capture_output=True, text=True) for words in wanted]
     except OSError:
         return None
-    return None if any(it.returncode for it in asked) or asked[1].stdout else asked[0].stdout.strip()
+    return None if any(it.returncode for it in asked) or asked[1].stdout else " ".join(asked[0].stdout.split())
 
 
 def verdict() -> str | None:
-    """The last line of the test command for the commit whose sources these are, where it ran here; else None."""
+    """The last line of the test command for these sources, where it ran here; else None."""
     try:
         tested, line = read_text(VERDICT).split("\n")[:2]
     except (OSError, ValueError):
         return None
-    return line if tested == commit() else None
+    return line if tested == tested_sources() else None
 
 
 def has_passed() -> bool:

@@ -1,7 +1,7 @@
 """Edits that the prover has to refuse: what proofs, wrong-bodies and wrong-definitions share.
 
-The crates are copied to a temporary folder, where each edit is a file of must-fail. `rt must-fail` tries them, over what `rt check` kept of the
-crates below, or `rt ci`, which takes no such work, and proves from nothing what no earlier run of it passed on this machine.
+The crates are copied to a temporary folder, where `rt check` proves them over the libraries of those below that are there. Over what it kept, one check
+tries many wrong bodies (batches.py), and `rt must-fail` each other edit, as a file of must-fail.
 """
 
 from __future__ import annotations
@@ -13,10 +13,11 @@ import sys
 from concurrent.futures import ThreadPoolExecutor
 from typing import Iterable, Iterator, NamedTuple
 
+import batches
 from edits import Trial, copy_crates, write
 from lanes import lanes
 from processors import take_libraries
-from repository import CRATES, RT, Missing, crates, read_text
+from repository import CRATES, RT, Missing, read_text
 
 # An edit, whether it passed, and what to print.
 Result = tuple[Trial, bool, str]
@@ -54,12 +55,12 @@ def own(trial: Trial) -> Attempt:
 
 
 def ran(folder: str, *words: str) -> list[str]:
-    """Runs a command of `rt` in a folder of crates; answers its lines. How far it is goes to standard error, with the lines of a crate that is not
-    proved."""
+    """Runs a command that runs `rt` in a folder of crates; answers its lines. How far it is goes to standard error, with the lines of a crate that is
+    not proved."""
     found: list[str] = []
     since: list[str] = []
     given = {"RT_JOBS": str(lanes()), **os.environ}
-    with subprocess.Popen([RT, *words], cwd=folder, env=given, stdout=subprocess.PIPE, stderr=subprocess.STDOUT, text=True, errors="replace") as rt:
+    with subprocess.Popen(words, cwd=folder, env=given, stdout=subprocess.PIPE, stderr=subprocess.STDOUT, text=True, errors="replace") as rt:
         for line in rt.stdout or ():
             found.append(line.rstrip("\n"))
             since.append(line)
@@ -67,8 +68,13 @@ def ran(folder: str, *words: str) -> list[str]:
                 print(*(since if "NOT PROVED" in line else [line]), sep="", end="", file=sys.stderr, flush=True)
                 since.clear()
     if rt.returncode not in (0, 1):
-        raise Missing(f"{RT} {words[0]} ended with status {rt.returncode}:\n" + "".join(since[-12:]))
+        raise Missing(f"{' '.join(words[:2])} ended with status {rt.returncode}:\n" + "".join(since[-12:]))
     return found
+
+
+def told_of(lines: Iterable[str]) -> dict[tuple[str, str], str]:
+    """What `rt` says of edits in these lines, by their crates and files."""
+    return {(it[1], it[2]): it[3] for it in filter(None, map(TOLD.match, lines))}
 
 
 def result(trial: Trial, is_right: bool, text: str) -> Result:
@@ -83,41 +89,54 @@ def judged(text: str | None) -> tuple[bool, str]:
     return text.startswith(REFUSED) and not text.startswith(LIMITED), text
 
 
-def over_kept(folder: str, names: Iterable[str]) -> list[str]:
-    """Tries the edits of these crates, over what is kept in the folder; answers the lines of `rt`: none of a crate that is not proved as it stands."""
+def of_gate(lines: list[str], own: list[Attempt]) -> Iterator[Result]:
+    """What the test command says by these lines of the edits of must-fail, and of all but these."""
+    said = told_of(lines)
+    yield from (result(it.trial, *judged(said.get((it.trial.crate, it.file)))) for it in own)
+    told: list[str] = next((line.split()[2:] for line in lines if line.startswith("rt: FAILED: ")), [])
+    files = {f"{it.trial.crate}/{it.file}" for it in own}
+    failed = " ".join(it for it in told if it not in files)
+    last = next((line for line in reversed(lines) if re.match(r"\d+ passed, \d+ failed", line)), "no verdict")
+    is_right = not failed and bool(re.match(r"[1-9]\d* passed, \d+ failed$", last))
+    yield result(Trial("test", "proofs_tests_and_programs", ()), is_right, f"{last}{f': {failed}' * bool(failed)}")
+    if not is_right:
+        print(*lines, sep="\n")
 
-    def of(crate: str) -> list[str]:
-        checked = subprocess.run([RT, "check"], cwd=os.path.join(folder, "crates", crate), capture_output=True, text=True, errors="replace")
+
+def size(crate: str) -> int:
+    """The octets of the sources below a folder."""
+    return sum(os.path.getsize(os.path.join(at, file)) for at, _, files in os.walk(os.path.join(crate, "src")) for file in files)
+
+
+def refused_together(pool: ThreadPoolExecutor, folder: str, attempts: list[Attempt]) -> dict[Attempt, str]:
+    """What the prover says of those of these attempts that it refuses together with others, over what is kept of their crates."""
+    crates = {name: batches.Checker(folder, name) for name in dict.fromkeys(it.trial.crate for it in attempts)}
+    of = {(it.trial.crate, it.trial.name): it for it in attempts}
+    asked = [(name, pool.submit(checker.refused, batch)) for name, checker in crates.items()
+             for batch in batches.batches(checker.folder, [it.trial for it in attempts if it.trial.crate == name])]
+    return {of[name, edit]: f"{REFUSED}: {line[:160]}" for name, found in asked for edit, line in found.result().items()}
+
+
+def tried(folder: str, attempts: list[Attempt]) -> Iterator[Result]:
+    """Tries these edits, over what is kept; one of which nothing is said has failed, as where its crate is not proved as it stands."""
+    take_libraries()
+    top = copy_crates(folder, dict.fromkeys(it.trial.crate for it in attempts), with_kept=True)
+
+    def is_proved(crate: str) -> bool:
+        checked = subprocess.run([RT, "check"], cwd=os.path.join(top, crate), capture_output=True, text=True, errors="replace")
         if checked.returncode:
             print(f"{crate} is not proved:\n{checked.stdout[-4000:]}{checked.stderr[-4000:]}", end="", file=sys.stderr, flush=True)
-        return [] if checked.returncode else ran(folder, "must-fail", crate)
+        return checked.returncode == 0
 
     with ThreadPoolExecutor(lanes()) as pool:
-        return [line for found in pool.map(of, names) for line in found]
-
-
-def tried(folder: str, attempts: list[Attempt], with_all: bool = False) -> Iterator[Result]:
-    """Tries these edits; one of which `rt` says nothing has failed. With all crates they are tried in a run of the test command, and what it says of
-    all but these edits is the last result."""
-    named = dict.fromkeys(it.trial.crate for it in attempts)
-    if not with_all:
-        take_libraries()
-    top = copy_crates(folder, [*crates()] if with_all else [*named], with_kept=not with_all)
-    for it in attempts:
+        names = sorted(dict.fromkeys(it.trial.crate for it in attempts), key=lambda it: -size(os.path.join(top, it)))
+        proved = [name for name, is_well in zip(names, pool.map(is_proved, names)) if is_well]
+        said = refused_together(pool, folder, [it for it in attempts if it.trial.crate in proved])
+    alone = [it for it in attempts if it not in said and it.trial.crate in proved]
+    for it in alone:
         write(os.path.join(top, it.trial.crate, "must-fail", it.file), it.text)
-    lines = ran(folder, "ci") if with_all else over_kept(folder, named)
-    found = filter(None, map(TOLD.match, lines))
-    said = {(it[1], it[2]): it[3] for it in found}
-    for it in attempts:
-        yield result(it.trial, *judged(said.get((it.trial.crate, it.file))))
-    if with_all:
-        told: list[str] = next((line.split()[2:] for line in lines if line.startswith("rt: FAILED: ")), [])
-        files = {f"{it.trial.crate}/{it.file}" for it in attempts}
-        failed = " ".join(it for it in told if it not in files)
-        is_right = not failed and bool(re.match(r"[1-9]\d* passed, \d+ failed$", lines[-1]))
-        yield result(Trial("test", "proofs_tests_and_programs", ()), is_right, f"{lines[-1]}{f': {failed}' * bool(failed)}")
-        if not is_right:
-            print(*lines, sep="\n")
+    told = told_of(ran(folder, RT, "must-fail", *dict.fromkeys(it.trial.crate for it in alone)) if alone else [])
+    yield from (result(it.trial, *judged(said.get(it) or told.get((it.trial.crate, it.file)))) for it in attempts)
 
 
 def named(every: dict[str, list[Trial]], words: list[str]) -> list[Trial]:

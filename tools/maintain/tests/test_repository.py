@@ -104,8 +104,10 @@ def tested(tmp_path: Path, monkeypatch: pytest.MonkeyPatch) -> Path:
     monkeypatch.setattr(repository, "TOP", str(tmp_path))
     monkeypatch.setattr(repository, "VERDICT", str(tmp_path / "out" / "verdict"))
     (tmp_path / ".gitignore").write_text("out\n")
-    (tmp_path / "out").mkdir()
-    (tmp_path / "out" / "program").write_text("")
+    for folder in ("out", "crates"):
+        (tmp_path / folder).mkdir()
+    for file in ("out/program", "crates/a.rt", "crates.txt", "HANDLES"):
+        (tmp_path / file).write_text("")
     for words in ["init", "-q"], ["add", "."], ["-c", "user.name=a", "-c", "user.email=a@example", "commit", "-qm", "one"]:
         subprocess.run(["git", *words], cwd=tmp_path, check=True)
     return tmp_path
@@ -113,13 +115,20 @@ def tested(tmp_path: Path, monkeypatch: pytest.MonkeyPatch) -> Path:
 
 @pytest.mark.parametrize(
     ("line", "edited", "made"),
-    [("140 passed, 0 failed (106 edits refused)", False, True), ("139 passed, 1 failed", False, False), ("140 passed, 0 failed", True, False), (None, False, False)],
+    [
+        ("140 passed, 0 failed (106 edits refused)", "", True),
+        ("140 passed, 0 failed", "docs", True),
+        ("139 passed, 1 failed", "", False),
+        ("140 passed, 0 failed", "crates/b.rt", False),
+        ("140 passed, 0 failed", "HANDLES", False),
+        (None, "", False),
+    ],
 )
-def test_what_the_gate_made_counts_where_it_passed_on_these_sources(tested: Path, line: str | None, edited: bool, made: bool) -> None:
+def test_what_the_gate_made_counts_where_it_passed_on_these_sources(tested: Path, line: str | None, edited: str, made: bool) -> None:
     if line:
-        (tested / "out" / "verdict").write_text(f"{repository.commit()}\n{line}\n")
+        (tested / "out" / "verdict").write_text(f"{repository.tested_sources()}\n{line}\n")
     if edited:
-        (tested / "new").write_text("")
-    assert repository.verdict() == (None if edited else line)
+        (tested / edited).write_text("more")
+    assert repository.verdict() == (None if edited not in ("", "docs") else line)
     assert repository.is_made_by_gate(str(tested / "out" / "program")) == made
     assert not repository.is_made_by_gate(str(tested / "out" / "none"))

@@ -149,14 +149,14 @@ def test_each_edit_that_is_asked_has_a_line(tmp_path: Path, monkeypatch: pytest.
 
 def test_why_a_crate_is_not_proved_is_told(tmp_path: Path, monkeypatch: pytest.MonkeyPatch, capsys: pytest.CaptureFixture[str]) -> None:
     fake(monkeypatch, tmp_path, "== low", "axioms", "rt: low proved", "== captures", ERROR, "rt: captures NOT PROVED", status=1)
-    prover.ran(str(tmp_path), "ci")
+    prover.ran(str(tmp_path), str(tmp_path / "rt"), "ci")
     assert capsys.readouterr().err == f"rt: low proved\n== captures\n{ERROR}\nrt: captures NOT PROVED\n"
     (tmp_path / "rt").write_text(f"#!/bin/sh\necho '{ERROR}'\nexit 1\n")
     assert [it[1] for it in prover.tried(str(tmp_path / "copy"), [prover.attempt("body", TRIALS[0])])] == [False]
     assert capsys.readouterr().err == f"captures is not proved:\n{ERROR}\n"
     fake(monkeypatch, tmp_path, "rt: crates.txt names no crate", status=2)
-    with pytest.raises(Missing, match="ended with status 2:\nrt: crates.txt names no crate"):
-        prover.ran(str(tmp_path), "ci")
+    with pytest.raises(Missing, match="ci ended with status 2:\nrt: crates.txt names no crate"):
+        prover.ran(str(tmp_path), str(tmp_path / "rt"), "ci")
 
 
 def test_words_name_edits() -> None:
@@ -191,13 +191,12 @@ def test_an_edit_of_a_crate_below_is_refused_above_alone(
     assert edited.read_text() == before
 
 
-def test_the_run_of_all_crates_tells_what_failed_besides_edits(tmp_path: Path, monkeypatch: pytest.MonkeyPatch) -> None:
-    attempts = [prover.attempt("body", it) for it in TRIALS]
+def test_the_test_command_tells_what_failed_besides_edits() -> None:
+    own = [prover.attempt("body", it) for it in TRIALS]
     for failed, told in (("captures/body-other.edit", "2 passed, 1 failed"), ("captures/body-other.edit lagtool (run)", "2 passed, 1 failed: lagtool (run)")):
-        monkeypatch.setattr(prover, "ran", lambda folder, word: [PASSED, f"rt: FAILED: {failed}", "2 passed, 1 failed"])
-        *_, last = prover.tried(str(tmp_path / told), attempts, with_all=True)
-        assert (last[0].crate, last[1], last[2].removeprefix("FAILED ")) == ("test", told == "2 passed, 1 failed", told)
-        assert set(os.listdir(tmp_path / told / "crates")) == {*crates()}
+        *edits_told, last = prover.of_gate([PASSED, f"rt: FAILED: {failed}", "2 passed, 1 failed", "test: 9 processor minutes"], own)
+        assert [it[1] for it in edits_told] == [True, False]
+        assert last[1:] == ("lagtool" not in failed, told if "lagtool" not in failed else f"FAILED {told}")
 
 
 def test_a_definition_that_does_not_read_is_none() -> None:

@@ -1,0 +1,122 @@
+"""Wrong bodies that one check of a crate refuses: what is a function, which edits are tried together, and which lines refuse which edit."""
+
+from __future__ import annotations
+
+from pathlib import Path
+
+import pytest
+
+import loading  # by which modules of tools/maintain are found
+import batches
+import edits
+
+SOURCE = """use std::fmt;
+
+pub fn first(a: u8) -> u8
+    ensures {
+        result ≡ a
+    }
+{
+    let inner = 1;
+    a + inner
+}
+
+trait Named {
+    fn name(&self) -> u8;
+}
+
+impl Named for First {
+    fn name(&self) -> u8 {
+        if self.0 == 0 {
+            return 7;
+        }
+        self.0
+    }
+}
+
+impl Named for Other {
+    fn name(&self) -> u8 { 9 }
+}
+
+pub(crate) const fn last(
+    a: u8,
+) -> u8 {
+    a - 3
+}
+"""
+PAIRS = {
+    "of_first": (("src/a.rt", "let inner = 1;", "let inner = 2;"),),
+    "of_first_again": (("src/a.rt", "    a + inner", "    a"),),
+    "of_both": (("src/a.rt", "return 7;", "return 8;"), ("src/a.rt", "    a - 3", "    a - 4")),
+    "of_last": (("src/a.rt", "    a - 3", "    fn helped() {} a - 5"),),
+    "of_a_contract": (("src/a.rt", "result ≡ a", "result ≡ 0"),),
+    "of_one_line": (("src/a.rt", "{ 9 }", "{ 8 }"),),
+    "of_a_definition": (("specs/A.antt", "a", "b"),),
+    "of_nothing": (("src/a.rt", "a", "b"),),
+}
+TRIALS = {name: edits.Trial("low", name, pairs) for name, pairs in PAIRS.items()}
+
+
+@pytest.fixture
+def crate(tmp_path: Path) -> str:
+    (tmp_path / "src").mkdir()
+    (tmp_path / "src" / "a.rt").write_text(SOURCE)
+    (tmp_path / "src" / "b").mkdir()
+    (tmp_path / "src" / "b" / "c.rt").write_text(SOURCE)
+    return str(tmp_path)
+
+
+def test_functions_have_a_body_of_lines() -> None:
+    found = [(it.name, it.first, it.opens, it.closes) for it in batches.functions(SOURCE)]
+    assert found == [("first", 3, 7, 10), ("name", 17, 17, 22), ("last", 29, 31, 33)]
+    around = [batches.around(batches.functions(SOURCE), line) for line in (2, 3, 8, 11, 20, 26, 32)]
+    assert [it and it.name for it in around] == [None, "first", "first", None, "name", None, "last"]
+
+
+def test_edits_of_different_bodies_are_tried_together(crate: str) -> None:
+    tried = [[it.name for it in batch] for batch in batches.batches(crate, TRIALS.values())]
+    assert tried == [["of_first", "of_both"], ["of_first_again", "of_last"]]
+    defining = [edits.Trial("low", name, (("src/a.rt", old, f"fn same() {{}} {old}"),)) for name, old in (("x", "return 7;"), ("y", "    a - 3"))]
+    assert [len(it) for it in batches.batches(crate, defining)] == [1, 1]
+
+
+def test_what_is_edited_stays_in_its_line(crate: str) -> None:
+    text = batches.edited(crate, [TRIALS["of_first"], TRIALS["of_both"]])["src/a.rt"]
+    assert text == SOURCE.replace("inner = 1;", "inner = 2;").replace("return 7", "return 8").replace("a - 3", "a - 4")
+
+
+NOTE = "it is not proved that what the function ensures holds when it returns (`returns`)"
+LAST = f"note: src/a.rt:29:5: {NOTE}"
+INNER = "src/a.rt:20:9: error: `returns`: no"
+ANSWER = "./proofs/b/c/First/name/Answers.antt:3:4: error: `returns`: `grind` found no proof"
+
+
+@pytest.mark.parametrize(
+    ("lines", "found"),
+    [
+        ([LAST, "note: src/a.rt:8:5: this took 7 s", INNER, "statements std: modules loaded=1"], {("src/a.rt", 29): LAST, ("src/a.rt", 17): INNER}),
+        ([ANSWER, f"note: src/a.rt:8:1: {NOTE}"], {("src/b/c.rt", 17): ANSWER, ("src/a.rt", 3): f"note: src/a.rt:8:1: {NOTE}"}),
+        (["./proofs/a/last/Answers.antt:1:1: error: `x` is not in scope", LAST], {("src/a.rt", 29): LAST}),
+        ([LAST, "src/a.rt:32:5: error: `x` is not in scope"], None),
+        ([LAST, "src/a.rt:32:5: error[no-such-name]: there is no x"], None),
+        ([LAST, "./proofs/Law.antt:1:1: error: no"], None),
+        ([LAST, "src/a.rt:2:1: error: no"], None),
+        ([], {}),
+    ],
+)
+def test_lines_blame_functions(crate: str, lines: list[str], found: dict[tuple[str, int], str] | None) -> None:
+    assert batches.blamed(crate, lines) == found
+
+
+def test_each_edit_of_a_batch_wants_a_line_of_its_own(crate: str, monkeypatch: pytest.MonkeyPatch) -> None:
+    checker = batches.Checker.__new__(batches.Checker)
+    checker.folder = crate
+    batch = [TRIALS["of_first"], TRIALS["of_both"]]
+    for lines, wanted in (
+        ([LAST], {"of_both": LAST}),
+        ([LAST, f"note: src/a.rt:3:1: {NOTE}"], {"of_both": LAST, "of_first": f"note: src/a.rt:3:1: {NOTE}"}),
+        ([LAST, ANSWER], {}),
+        ([], {}),
+    ):
+        monkeypatch.setattr(checker, "lines", lambda texts: lines)
+        assert checker.refused(batch) == wanted
