@@ -69,19 +69,24 @@ def around(within: Sequence[Function], line: int) -> Function | None:
     return max(its, key=lambda it: it.first) if its else None
 
 
+def changes(crate: str, trial: Trial) -> dict[str, dict[int, str]]:
+    """The lines that an edit changes, from 1 on, as they would be, of each file below the crate's folder: each text stands in one line, and so does what
+    takes its place, so lines stay where they are. None where the edit cannot be made."""
+    was, now, _ = replaced(crate, trial.pairs)
+    rows = {path: zip(text.splitlines(keepends=True), now[path].splitlines(keepends=True)) for path, text in was.items()}
+    return {os.path.relpath(path, crate): {number: new for number, (old, new) in enumerate(its, 1) if old != new} for path, its in rows.items()}
+
+
 def places(crate: str, trial: Trial) -> set[Place]:
     """The functions whose bodies an edit changes; none where it changes anything else, or cannot be made."""
     found = set()
-    for file, old, _ in trial.pairs:
-        path = os.path.join(crate, file)
-        text = read_text(path) if file.startswith("src/") and os.path.isfile(path) else ""
-        if text.count(old) != 1:
-            return set()
-        line = text[: text.index(old)].count("\n") + 1
-        function = around(functions(text), line)
-        if function is None or not function.opens < line < function.closes:
-            return set()
-        found.add(Place(file, function.first))
+    for file, lines in changes(crate, trial).items():
+        within = functions(read_text(os.path.join(crate, file))) if file.startswith("src/") else []
+        for line in lines:
+            function = around(within, line)
+            if function is None or not function.opens < line < function.closes:
+                return set()
+            found.add(Place(file, function.first))
     return found
 
 
@@ -116,17 +121,14 @@ def batches(crate: str, trials: Iterable[Trial]) -> list[list[Trial]]:
 
 
 def edited(crate: str, batch: Iterable[Trial]) -> dict[str, str]:
-    """The files of a crate that these edits change, as they would be, by their names there: a text that stands once stands in one line, and so does
-    the new one, so lines stay where they are."""
-    found: dict[str, str] = {}
+    """The files of a crate that these edits change, as they would be, by their names there."""
+    found: dict[str, list[str]] = {}
     for trial in batch:
-        for file, old, new in trial.pairs:
-            was = read_text(os.path.join(crate, file))
-            lines = found.get(file, was).splitlines(keepends=True)
-            number = was[: was.index(old)].count("\n")
-            lines[number] = lines[number].replace(old, new)
-            found[file] = "".join(lines)
-    return found
+        for file, lines in changes(crate, trial).items():
+            text = found.setdefault(file, read_text(os.path.join(crate, file)).splitlines(keepends=True))
+            for number, line in lines.items():
+                text[number - 1] = line
+    return {file: "".join(lines) for file, lines in found.items()}
 
 
 def sources(crate: str, answers: str) -> list[Place]:

@@ -53,6 +53,7 @@ PAIRS = {
     "of_one_line": (("src/a.rt", "{ 9 }", "{ 8 }"),),
     "of_a_definition": (("specs/A.antt", "a", "b"),),
     "of_nothing": (("src/a.rt", "a", "b"),),
+    "of_a_text_that_stands_twice_first": (("src/a.rt", "let inner = 1;", "let outer = 1;"), ("src/a.rt", "inner", "outer")),
 }
 TRIALS = {name: edits.Trial("low", name, pairs) for name, pairs in PAIRS.items()}
 
@@ -75,7 +76,7 @@ def test_functions_have_a_body_of_lines() -> None:
 
 def test_edits_of_different_bodies_are_tried_together(crate: str) -> None:
     tried = [[it.name for it in batch] for batch in batches.batches(crate, TRIALS.values())]
-    assert tried == [["of_first", "of_both"], ["of_first_again", "of_last"]]
+    assert tried == [["of_first", "of_both"], ["of_first_again", "of_last"], ["of_a_text_that_stands_twice_first"]]
     defining = [edits.Trial("low", name, (("src/a.rt", old, f"fn same() {{}} {old}"),)) for name, old in (("x", "return 7;"), ("y", "    a - 3"))]
     assert [len(it) for it in batches.batches(crate, defining)] == [1, 1]
 
