@@ -101,9 +101,9 @@ TRIALS = [edits.Trial("captures", name, pairs) for name, pairs in EDITS.items()]
 def test_an_edit_is_a_file_of_must_fail() -> None:
     text = "file: src/a.rt\nold: 1\nnew: 2\nold: return 3;\nnew: \nfile: specs/A.antt\nold: 4\nnew: 5\n"
     assert prover.attempt("body", TRIALS[0]) == (TRIALS[0], "body-one.edit", text)
-    for it in edits.must_fail("captures"):
+    for it in edits.must_fail("cables"):
         assert prover.own(it).file == f"{it.name}.edit"
-        assert edits.read_trial("captures", it.name, prover.own(it).text.splitlines()) == it
+        assert edits.read_trial("cables", it.name, prover.own(it).text.splitlines()) == it
 
 
 @pytest.mark.parametrize(
