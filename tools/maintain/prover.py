@@ -17,7 +17,7 @@ import batches
 from edits import Trial, copy_crates, write
 from lanes import lanes
 from processors import take_libraries
-from repository import CRATES, RT, Missing, read_text
+from repository import RT, Missing
 
 # An edit, whether it passed, and what to print.
 Result = tuple[Trial, bool, str]
@@ -46,12 +46,6 @@ def attempt(kind: str, trial: Trial) -> Attempt:
         rows += [f"old: {old}", f"new: {new}"]
         last = file
     return Attempt(trial, f"{kind}-{trial.name}.edit", "\n".join(rows) + "\n")
-
-
-def own(trial: Trial) -> Attempt:
-    """An edit of a crate's must-fail, as it stands there."""
-    file = f"{trial.name}.edit"
-    return Attempt(trial, file, read_text(os.path.join(CRATES, trial.crate, "must-fail", file)))
 
 
 def ran(folder: str, *words: str) -> list[str]:
@@ -87,20 +81,6 @@ def judged(text: str | None) -> tuple[bool, str]:
     if text is None:
         return False, "was not tried, as its crate is not proved as it stands"
     return text.startswith(REFUSED) and not text.startswith(LIMITED), text
-
-
-def of_gate(lines: list[str], own: list[Attempt]) -> Iterator[Result]:
-    """What the test command says by these lines of the edits of must-fail, and of all but these."""
-    said = told_of(lines)
-    yield from (result(it.trial, *judged(said.get((it.trial.crate, it.file)))) for it in own)
-    told: list[str] = next((line.split()[2:] for line in lines if line.startswith("rt: FAILED: ")), [])
-    files = {f"{it.trial.crate}/{it.file}" for it in own}
-    failed = " ".join(it for it in told if it not in files)
-    last = next((line for line in reversed(lines) if re.match(r"\d+ passed, \d+ failed", line)), "no verdict")
-    is_right = not failed and bool(re.match(r"[1-9]\d* passed, \d+ failed$", last))
-    yield result(Trial("test", "proofs_tests_and_programs", ()), is_right, f"{last}{f': {failed}' * bool(failed)}")
-    if not is_right:
-        print(*lines, sep="\n")
 
 
 def size(crate: str) -> int:

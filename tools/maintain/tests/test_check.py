@@ -53,17 +53,17 @@ def test_no_check_and_an_unknown_one_are_refused(words: list[str]) -> None:
 
 
 def test_no_two_checks_that_prove_in_one_folder_nor_two_that_measure_but_carry_run_at_a_time() -> None:
-    carry, root, toolchain, packages, others = ([name for name, _ in it] for it in check.lanes(check.asked(["--all"])))
-    assert sorted([*carry, *root, *toolchain, *packages, *others]) == sorted(check.CHECKS)
-    assert all(check.CHECKS[it].wants == "toolchain" for it in toolchain)
+    carry, root, wrong, toolchain, packages, others = ([name for name, _ in it] for it in check.lanes(check.asked(["--all"])))
+    assert sorted([*carry, *root, *wrong, *toolchain, *packages, *others]) == sorted(check.CHECKS)
+    assert all(check.CHECKS[it].wants == "toolchain" for it in (*wrong, *toolchain)) and wrong == ["wrong-bodies", "wrong-definitions"]
     assert (carry, {*root}, {*packages}) == (["carry"], {"live", "peers", "hosts"}, {"machines", "dist"})
     assert root[0] == "hosts" and [check.stands_on_proofs(it) for it in others] == sorted(map(check.stands_on_proofs, others))
 
 
-@pytest.mark.parametrize(("names", "ran"), [(["live", "pages", "proofs"], ["pages", "proofs", "made", "live"]), (["pages"], ["pages"]), (["live"], ["made", "live"])])
-def test_what_stands_on_proofs_waits_until_that_is_made(names: list[str], ran: list[str], monkeypatch: pytest.MonkeyPatch) -> None:
+@pytest.mark.parametrize(("names", "ran"), [(["live", "pages", "test"], ["pages", "test", "made", "live"]), (["pages"], ["pages"]), (["live"], ["made", "live"])])
+def test_what_stands_on_the_test_command_waits_until_that_is_made(names: list[str], ran: list[str], monkeypatch: pytest.MonkeyPatch) -> None:
     told: list[str] = []
-    wants = {"live": "library, root", "pages": "", "proofs": "toolchain"}
+    wants = {"live": "library, root", "pages": "", "test": "toolchain"}
     pages = Event()
 
     def ends(name: str, more: list[str], gives_way: bool) -> str:
@@ -80,7 +80,7 @@ def test_what_stands_on_proofs_waits_until_that_is_made(names: list[str], ran: l
     monkeypatch.setattr(check, "ends", ends)
     monkeypatch.setattr(check, "make_all", made)
     assert sorted(check.side_by_side([(name, []) for name in names])) == sorted(names)
-    # Those beside proofs come in any order.
+    # Those beside test come in any order.
     before = ran.index("made") if "made" in ran else len(ran)
     assert (sorted(told[:before]), told[before:]) == (ran[:before], ran[before:])
 

@@ -102,8 +102,7 @@ def test_an_edit_is_a_file_of_must_fail() -> None:
     text = "file: src/a.rt\nold: 1\nnew: 2\nold: return 3;\nnew: \nfile: specs/A.antt\nold: 4\nnew: 5\n"
     assert prover.attempt("body", TRIALS[0]) == (TRIALS[0], "body-one.edit", text)
     for it in edits.must_fail("cables"):
-        assert prover.own(it).file == f"{it.name}.edit"
-        assert edits.read_trial("cables", it.name, prover.own(it).text.splitlines()) == it
+        assert edits.read_trial("cables", it.name, prover.attempt("body", it).text.splitlines()) == it
 
 
 @pytest.mark.parametrize(
@@ -189,14 +188,6 @@ def test_an_edit_of_a_crate_below_is_refused_above_alone(
     monkeypatch.setattr(by_prover, "checked", lambda crate: next(asked))
     assert (by_prover.try_below(str(top), trial), [*asked]) == ((right, said), [])
     assert edited.read_text() == before
-
-
-def test_the_test_command_tells_what_failed_besides_edits() -> None:
-    own = [prover.attempt("body", it) for it in TRIALS]
-    for failed, told in (("captures/body-other.edit", "2 passed, 1 failed"), ("captures/body-other.edit lagtool (run)", "2 passed, 1 failed: lagtool (run)")):
-        *edits_told, last = prover.of_gate([PASSED, f"rt: FAILED: {failed}", "2 passed, 1 failed", "test: 9 processor minutes"], own)
-        assert [it[1] for it in edits_told] == [True, False]
-        assert last[1:] == ("lagtool" not in failed, told if "lagtool" not in failed else f"FAILED {told}")
 
 
 def test_a_definition_that_does_not_read_is_none() -> None:
