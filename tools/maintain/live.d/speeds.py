@@ -187,8 +187,8 @@ def fastest(part: Part) -> None:
         theirs = part.theirs("u0", "u1", "u2:key=6")
         write("")
         ours = part.ours(*names, file=file)
-        apart = lambda: groups_of(ours, names) == [["t0", "t1"], ["t2"]]
-        check(within(COMES_UP, apart) and "degraded, 2 of 3 links carry" in ours.text(), "by count the group of most links carries", ours.text())
+        apart = lambda: groups_of(ours, names) == [["t0", "t1"], ["t2"]] and "degraded, 2 of 3 links carry" in ours.text()
+        check(within(COMES_UP, apart), "by count the group of most links carries", ours.text())
         write("select=bandwidth\n")
         ours.process.send_signal(signal.SIGHUP)
         fast = lambda: "degraded, 1 of 3 links carry" in ours.text()
