@@ -110,6 +110,7 @@ void choose_ports_and_tell_host(struct plane *plane) {
 
 /* The last daemon carried in this aggregator, and the peer does, too. */
 void go_on_in(struct carry *carry, uint16_t aggregator) {
+    for (unsigned i = 0; i < NIW_MOST_PORTS; i++) carry->to_collect_since[i] = 1; /* long ago: what distributes already waits for nothing */
     carry->time = carry->heard_at = milliseconds();
     carry->active = carry->previous = aggregator;
 }

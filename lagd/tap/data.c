@@ -22,10 +22,10 @@ static enum offered offer_and_write_port(struct carry *carry, struct conversatio
     if (answer.status == NIW_HELD) return WAITS;
     if (answer.status == NIW_NONE_DISTRIBUTING) return LOST;
     if (!is_done(carry->core, answer.status, "niw_offer_conversation_in_active_aggregator")) return WAITS;
-    if (awaits_collecting(carry, (uint16_t)answer.number)) return WAITS;
     conversation->home = carry->active;
-    conversation->port = (uint16_t)answer.number;
     conversation->since = 0;
+    if (awaits_collecting(carry, (uint16_t)answer.number)) return WAITS;
+    conversation->port = (uint16_t)answer.number;
     write_port_of_conversation(carry->state, number, conversation->port);
     return GOES;
 }

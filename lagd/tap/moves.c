@@ -81,7 +81,7 @@ bool empty_port_and_send(struct plane *plane, const struct link *link) {
 /* Moves what has to move, once a tick, towards a peer that answers markers: one marker of a port tells of all that leave it. */
 void balance_and_send(struct carry *carry) {
     EACH_LINK_AS_IS(link, carry->ports)
-        if (link->emptying) return;
+        if (link->emptying || awaits_collecting(carry, link->settings.number)) return;
     if (carry->active_count < 2 || carry->probe.peer != ANSWERS || !none_moves(carry)
         || !ask_ports(carry->core, carry->active, carry->port_of))
         return;
