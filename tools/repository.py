@@ -25,7 +25,7 @@ CACHE = os.environ.get("XDG_CACHE_HOME") or os.path.expanduser("~/.cache")
 # The program that tools/lagtool --prove makes; and that which tools run: it, or one that LAGTOOL names.
 MADE = os.path.join(CRATES, "lagtool", "out", "lagtool")
 PROGRAM = os.environ.get("LAGTOOL", MADE)
-# What tools/test leaves: the commit that it ran on, and the last line of `rt ci`. The programs and tests that it made stand in the folders out/ of crates.
+# What tools/test leaves: what names the sources that it ran on, and the last line of `rt ci`. The programs and tests that it made stand in the folders out/ of crates.
 VERDICT = os.path.join(TOP, "out", "verdict")
 RT = os.environ.get("RT", "rt")
 CC = os.environ.get("CC", "cc")
@@ -138,14 +138,14 @@ def below(*names: str) -> list[str]:
 
 
 def tested_sources() -> str | None:
-    """What git names the sources that the test command reads; None where they are of no commit, or there is no git."""
+    """What git names the sources that the test command proves, and the toolchain; None where they are of no commit, or git or the toolchain is not here."""
     its = ("crates", "crates.txt", "HANDLES")
-    wanted = ["git", "rev-parse", *(f"HEAD:{it}" for it in its)], ["git", "status", "--porcelain", "--", *its]
+    wanted = ["git", "rev-parse", *(f"HEAD:{it}" for it in its)], ["git", "status", "--porcelain", "--", *its], [RT, "version"]
     try:
         asked = [subprocess.run(words, cwd=TOP, capture_output=True, text=True) for words in wanted]
     except OSError:
         return None
-    return None if any(it.returncode for it in asked) or asked[1].stdout else " ".join(asked[0].stdout.split())
+    return None if any(it.returncode for it in asked) or asked[1].stdout else " ".join((asked[0].stdout + asked[2].stdout).split())
 
 
 def verdict() -> str | None:

@@ -116,7 +116,7 @@ def of_subagent() -> list[File]:
 
 
 def of_build() -> str:
-    """What the file BUILD says: the commit, the toolchain, and the last line of the test command for this commit, as tools/test left it."""
+    """What the file BUILD says: the commit, the toolchain, and the last line of the test command for its crates, as tools/test left it."""
     commit = printed("git", "rev-parse", "HEAD", cwd=TOP).strip()
     changed = printed("git", "status", "--porcelain", cwd=TOP).strip()
     said = verdict() or "tools/test did not run on just these sources"

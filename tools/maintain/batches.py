@@ -1,8 +1,9 @@
 """Wrong bodies that one check of a crate refuses, so that a check is not made for each.
 
-A function's proof knows of other functions what their contracts say, and not their bodies. So of wrong bodies of different functions each is refused,
-or not, as it would be alone. Where what the prover says is not that plain, the edit is left to be tried alone: it says something of a function that no
-edit changes, it does not read all, or an edit is not within a body.
+A function's proof knows of other functions what their contracts say, and whom they call, but not their bodies. So of wrong bodies of different functions
+each is refused, or not, as it would be alone; no edit adds a call that another one's would close to a cycle. Where what the prover says is not that plain
+an edit is left to be tried alone: where an error is of a function that no edit changes, the prover cannot read all or gives no verdict, and what is not
+within a body.
 """
 
 from __future__ import annotations
@@ -12,7 +13,6 @@ import re
 import shutil
 import subprocess
 import tempfile
-from dataclasses import dataclass, field
 from typing import Any, Iterable, NamedTuple, Sequence
 
 from edits import Trial, replaced, write
@@ -22,22 +22,23 @@ from repository import read_text
 # How many edits one check has at most.
 MOST = 16
 FUNCTION = re.compile(r"( *)(?:pub(?:\([\w:]+\))? )?(?:ghost |const |unsafe |extern \"C\" )*fn (\w+)")
-DEFINED = re.compile(r"\bfn (\w+)")
 # Of an error: where it is, and what it says. The prover's own words for a statement that it could not prove come in a note.
 ERROR = re.compile(r"(?:\./)?([^\s:]+):(\d+):\d+: error: (.*)|note: ([^\s:]+):(\d+):\d+: (it is not proved .*)")
-# An error before any proof, by which nothing is known of the others.
-EARLY = re.compile(r"\S+:\d+:\d+: error\[")
+# An error before any proof, or a limit of the prover, by which nothing is known of the others.
+NO_VERDICT = re.compile(r"\S+:\d+:\d+: error\[|fn .*: could not tell|.*(ran out of (stack|the (steps|memory) that the check)|(outgrew the memory limit|stopped at the step limit) \()")
 ANSWERS = re.compile(r"proofs/(.+)/(\w+)/Answers\.antt$")
 # What a proof says where an edit took away what it names.
-NAMED = re.compile(r"has no field|is not in scope|has no `|was not admitted")
-# What the prover says where it cannot read an edit.
-UNREAD = re.compile(r"is not in scope|has no field|is no name|operand is missing|expected the end|cannot continue")
+NAMED = re.compile(r"has no field|is not in scope|has no `|w(as|ere) not admitted")
+# What an error of a source says that is of a goal; without a goal before it the prover could not read the source.
+OF_GOAL = re.compile(r"`[^`]*`: (?!.*(is not in scope|has no field|is no name|operand is missing|expected the end|cannot continue|w(as|ere) not admitted))")
 
 
 class Function(NamedTuple):
-    """A function of a file: its name, its first line, that of the brace that opens its body, and that of the one that closes it; from 1 on."""
+    """A function of a file: its name, the line of the `impl` that has it, "" without one, its first line, that of the brace that opens its body, and that
+    of the one that closes it; from 1 on."""
 
     name: str
+    impl: str
     first: int
     opens: int
     closes: int
@@ -56,10 +57,11 @@ def functions(text: str) -> list[Function]:
     starts = [(at, it) for at, line in enumerate(lines) if (it := FUNCTION.match(line))]
     for number, (at, it) in enumerate(starts):
         until = starts[number + 1][0] if number + 1 < len(starts) else len(lines)
-        opens = next((n for n in range(at, until) if re.fullmatch(rf"{it[1]}\S(.*\{{)?", lines[n]) and lines[n].endswith("{")), None)
+        opens = next((n for n in range(at, until) if re.fullmatch(rf"{it[1]}(?:\S.*)?\{{", lines[n])), None)
         closes = None if opens is None else next((n for n in range(opens + 1, len(lines)) if lines[n] == it[1] + "}"), None)
         if opens is not None and closes is not None:
-            found.append(Function(it[2], at + 1, opens + 1, closes + 1))
+            impl = next((line for line in reversed(lines[:at]) if line[:1].strip()), "") if it[1] else ""
+            found.append(Function(it[2], impl, at + 1, opens + 1, closes + 1))
     return found
 
 
@@ -90,34 +92,20 @@ def places(crate: str, trial: Trial) -> set[Place]:
     return found
 
 
-def named(trial: Trial) -> set[str]:
-    """The functions that an edit defines."""
-    return {name for _, old, new in trial.pairs for name in DEFINED.findall(new) if name not in DEFINED.findall(old)}
-
-
-@dataclass
-class Batch:
-    """Edits that are tried together, the functions whose bodies they change, and those that they define."""
-
-    trials: list[Trial] = field(default_factory=list)
-    changed: set[Place] = field(default_factory=set)
-    defined: set[str] = field(default_factory=set)
-
-
 def batches(crate: str, trials: Iterable[Trial]) -> list[list[Trial]]:
-    """These edits of a crate, but for those that have to be tried alone, so that no two of one batch change the same function or define the same one."""
-    found: list[Batch] = []
+    """These edits of a crate, but for those that have to be tried alone, so that no two of one batch change the same function."""
+    found: list[tuple[list[Trial], set[Place]]] = []
     for trial in trials:
-        at, names = places(crate, trial), named(trial)
-        if not at:
+        changed = places(crate, trial)
+        if not changed:
             continue
-        batch = next((it for it in found if len(it.trials) < MOST and not it.changed & at and not it.defined & names), None)
-        if batch is None:
-            found.append(batch := Batch())
-        batch.trials.append(trial)
-        batch.changed |= at
-        batch.defined |= names
-    return [it.trials for it in found]
+        batch, others = next((it for it in found if len(it[0]) < MOST and not it[1] & changed), (None, None))
+        if batch is None or others is None:
+            found.append(([trial], changed))
+        else:
+            batch.append(trial)
+            others |= changed
+    return [batch for batch, _ in found]
 
 
 def edited(crate: str, batch: Iterable[Trial]) -> dict[str, str]:
@@ -132,14 +120,17 @@ def edited(crate: str, batch: Iterable[Trial]) -> dict[str, str]:
 
 
 def sources(crate: str, answers: str) -> list[Place]:
-    """The functions that the answers of a proof may be of."""
+    """The functions that the answers of a proof may be of. Their folder is that of the function's file, or of its type's, with the type's name."""
     found = ANSWERS.match(answers)
-    parts = found[1].split("/") if found else []
-    for count in range(len(parts), 0, -1):
-        file = f"src/{'/'.join(parts[:count])}.rt"
-        if found and os.path.isfile(os.path.join(crate, file)):
-            return [Place(file, it.first) for it in functions(read_text(os.path.join(crate, file))) if it.name == found[2]]
-    return []
+    if not found:
+        return []
+    last = found[1].split("/")[-1]
+    in_type = not os.path.isfile(os.path.join(crate, "src", f"{found[1]}.rt"))
+    files = [os.path.join(at, file) for at, _, names in os.walk(os.path.join(crate, "src")) for file in names]
+    its = [(os.path.relpath(file, crate), it) for file in files for it in functions(read_text(file)) if it.name == found[2]]
+    if in_type:
+        return [Place(file, it.first) for file, it in its if any(last.startswith(word) for word in re.findall(r"[A-Z]\w*", it.impl))]
+    return [Place(file, it.first) for file, it in its if not it.impl and file == f"src/{found[1]}.rt"]
 
 
 def blamed(crate: str, lines: Iterable[str]) -> dict[Place, str] | None:
@@ -147,14 +138,14 @@ def blamed(crate: str, lines: Iterable[str]) -> dict[Place, str] | None:
     found: dict[Place, str] = {}
     for line in lines:
         error = ERROR.match(line)
-        if EARLY.match(line):
+        if NO_VERDICT.match(line):
             return None
         if not error:
             continue
         file, text = error[1] or error[4], error[3] or error[6]
         if file.startswith("src/"):
             function = around(functions(read_text(os.path.join(crate, file))), int(error[2] or error[5]))
-            its = [Place(file, function.first)] if function and not UNREAD.search(text) else []
+            its = [Place(file, function.first)] if function and (error[6] or OF_GOAL.match(text)) else []
         elif NAMED.search(text):
             continue
         else:
@@ -171,7 +162,7 @@ class Checker:
     def __init__(self, top: str, crate: str) -> None:
         self.folder = os.path.join(top, "crates", crate)
         self.rt: Any = rtlib()
-        self.words = [self.rt.RATTLE, "check", *self.rt.Crate(self.folder, top, {}).words(["--jobs", "1"], keeps=False)]
+        self.words = [*self.rt.guarded(), self.rt.RATTLE, "check", *self.rt.Crate(self.folder, top, {}).words(["--jobs", "1"], keeps=False)]
 
     def lines(self, texts: dict[str, str]) -> list[str]:
         """What the prover says of the crate with these texts in place of its own."""

@@ -1,4 +1,4 @@
-"""Edits that the prover has to refuse: what proofs, wrong-bodies and wrong-definitions share.
+"""Edits that the prover has to refuse: what wrong-bodies and wrong-definitions share.
 
 The crates are copied to a temporary folder, where `rt check` proves them over the libraries of those below that are there. Over what it kept, one check
 tries many wrong bodies (batches.py), and `rt must-fail` each other edit, as a file of must-fail.
@@ -21,7 +21,7 @@ from repository import RT, Missing
 
 # An edit, whether it passed, and what to print.
 Result = tuple[Trial, bool, str]
-# What `rt ci` says of an edit, of how far it is, and of an edit that the prover refuses.
+# What `rt` says of an edit, of how far it is, and of an edit that the prover refuses.
 TOLD = re.compile(r"rt: must-fail (\w+)/(\S+\.edit): (.*)")
 AT = re.compile(r"rt: \w+(: its tests are)? (proved|NOT PROVED)|rt: \w+: trying its ")
 REFUSED = "refused, as it must be"
@@ -49,12 +49,12 @@ def attempt(kind: str, trial: Trial) -> Attempt:
 
 
 def ran(folder: str, *words: str) -> list[str]:
-    """Runs a command that runs `rt` in a folder of crates; answers its lines. How far it is goes to standard error, with the lines of a crate that is
+    """Runs a command of `rt` in a folder of crates; answers its lines. How far it is goes to standard error, with the lines of a crate that is
     not proved."""
     found: list[str] = []
     since: list[str] = []
     given = {"RT_JOBS": str(lanes()), **os.environ}
-    with subprocess.Popen(words, cwd=folder, env=given, stdout=subprocess.PIPE, stderr=subprocess.STDOUT, text=True, errors="replace") as rt:
+    with subprocess.Popen([RT, *words], cwd=folder, env=given, stdout=subprocess.PIPE, stderr=subprocess.STDOUT, text=True, errors="replace") as rt:
         for line in rt.stdout or ():
             found.append(line.rstrip("\n"))
             since.append(line)
@@ -62,7 +62,7 @@ def ran(folder: str, *words: str) -> list[str]:
                 print(*(since if "NOT PROVED" in line else [line]), sep="", end="", file=sys.stderr, flush=True)
                 since.clear()
     if rt.returncode not in (0, 1):
-        raise Missing(f"{' '.join(words[:2])} ended with status {rt.returncode}:\n" + "".join(since[-12:]))
+        raise Missing(f"{RT} {words[0]} ended with status {rt.returncode}:\n" + "".join(since[-12:]))
     return found
 
 
@@ -115,7 +115,7 @@ def tried(folder: str, attempts: list[Attempt]) -> Iterator[Result]:
     alone = [it for it in attempts if it not in said and it.trial.crate in proved]
     for it in alone:
         write(os.path.join(top, it.trial.crate, "must-fail", it.file), it.text)
-    told = told_of(ran(folder, RT, "must-fail", *dict.fromkeys(it.trial.crate for it in alone)) if alone else [])
+    told = told_of(ran(folder, "must-fail", *dict.fromkeys(it.trial.crate for it in alone)) if alone else [])
     yield from (result(it.trial, *judged(said.get(it) or told.get((it.trial.crate, it.file)))) for it in attempts)
 
 

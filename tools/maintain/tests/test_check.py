@@ -72,7 +72,8 @@ def test_what_stands_on_the_test_command_waits_until_that_is_made(names: list[st
             pages.set()
         return name
 
-    def made() -> None:
+    def made(is_tested: bool) -> None:
+        assert is_tested == ("test" in names)
         assert "pages" not in names or pages.wait(10)
         told.append("made")
 
@@ -86,7 +87,7 @@ def test_what_stands_on_the_test_command_waits_until_that_is_made(names: list[st
 
 
 def test_where_nothing_is_made_the_others_still_end(monkeypatch: pytest.MonkeyPatch) -> None:
-    def made() -> None:
+    def made(is_tested: bool) -> None:
         raise Missing("no library")
 
     monkeypatch.setattr(check, "CHECKS", {"live": check.Check("tool", "library, root", "")})

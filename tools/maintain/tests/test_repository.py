@@ -103,6 +103,7 @@ def tested(tmp_path: Path, monkeypatch: pytest.MonkeyPatch) -> Path:
     """A checkout with one commit, the file in which the test command leaves its verdict, and a program."""
     monkeypatch.setattr(repository, "TOP", str(tmp_path))
     monkeypatch.setattr(repository, "VERDICT", str(tmp_path / "out" / "verdict"))
+    monkeypatch.setattr(repository, "RT", "echo")
     (tmp_path / ".gitignore").write_text("out\n")
     for folder in ("out", "crates"):
         (tmp_path / folder).mkdir()

@@ -148,14 +148,14 @@ def test_each_edit_that_is_asked_has_a_line(tmp_path: Path, monkeypatch: pytest.
 
 def test_why_a_crate_is_not_proved_is_told(tmp_path: Path, monkeypatch: pytest.MonkeyPatch, capsys: pytest.CaptureFixture[str]) -> None:
     fake(monkeypatch, tmp_path, "== low", "axioms", "rt: low proved", "== captures", ERROR, "rt: captures NOT PROVED", status=1)
-    prover.ran(str(tmp_path), str(tmp_path / "rt"), "ci")
+    prover.ran(str(tmp_path), "ci")
     assert capsys.readouterr().err == f"rt: low proved\n== captures\n{ERROR}\nrt: captures NOT PROVED\n"
     (tmp_path / "rt").write_text(f"#!/bin/sh\necho '{ERROR}'\nexit 1\n")
     assert [it[1] for it in prover.tried(str(tmp_path / "copy"), [prover.attempt("body", TRIALS[0])])] == [False]
     assert capsys.readouterr().err == f"captures is not proved:\n{ERROR}\n"
     fake(monkeypatch, tmp_path, "rt: crates.txt names no crate", status=2)
     with pytest.raises(Missing, match="ci ended with status 2:\nrt: crates.txt names no crate"):
-        prover.ran(str(tmp_path), str(tmp_path / "rt"), "ci")
+        prover.ran(str(tmp_path), "ci")
 
 
 def test_words_name_edits() -> None:

@@ -72,7 +72,7 @@ def try_counterexample(folder: str, trial: Trial, path: str) -> tuple[bool, str]
     answer = f"use Rattle.{trial.crate}.proofs.Counterexample.{{refuted}}\nuse Rattle.{trial.crate}.proofs.refuted.Goals as goal\n\n"
     write(os.path.join(crate, "proofs", "refuted", "Answers.antt"), answer + "pub returns : goal.returns\nreturns c = refuted\n")
     subprocess.run([RT, "fmt"], cwd=crate, stdin=subprocess.DEVNULL, capture_output=True)
-    is_proved = any(re.match(rf"rt: {trial.crate} proved", line) for line in prover.ran(folder, RT, "ci"))
+    is_proved = any(re.match(rf"rt: {trial.crate} proved", line) for line in prover.ran(folder, "ci"))
     return is_proved, "refuted: the law is false of it" if is_proved else "the counterexample is not proved"
 
 
