@@ -3,12 +3,14 @@
 from __future__ import annotations
 
 import signal
+import subprocess
 import time
 from typing import Callable
 
 from bonds import COMES_UP, RATE, End, Event, Programs, cables, check_end, check_order, check_whole, pair, run_flows
 from changing import order
 from checking import Failed, check, within
+from forged import two_ends
 from spaces import OURS, THEIRS, ip
 
 # How long a link waits in seconds, and how long LACP takes behind that.
@@ -163,6 +165,38 @@ def collects(programs: Programs) -> None:
             check_end(ours, "the sending end")
 
 
+# How long frames may be on their way to a mute peer, in ms: longer than a link that is held, and used again, stays out of use.
+MUTE_FLIGHT = 4000
+
+
+def loses(programs: Programs) -> None:
+    """A link goes out of use while data waits for the peer to collect there, and comes back within a flight. The peer answers no markers: what was to go
+    there is held for a flight, and goes on then."""
+    for way in WAYS:
+        with two_ends(programs, ["--flight", str(MUTE_FLIGHT), *way], ["--marker-responses", "0"], "not answered") as (ours, theirs):
+            check(order(ours, "--hold", "a1").returncode == 0 and within(3, lambda: theirs.links() == 1), "a link is out of use", theirs.text())
+            used = order(ours, "--release", "a1").returncode == 0
+            time.sleep(BEFORE_ATTACHED)
+            theirs.process.send_signal(signal.SIGSTOP)
+            check(used and within(2, lambda: ours.links() == 2), "it is used again, while the peer stands still", ours.text())
+            # Who asks for a hold asks again until the peer saw it.
+            asks = ["ip", "netns", "exec", ours.space, ours.program, "--folder", ours.folder, "--hold", "a1"]
+            holders: list[subprocess.Popen[bytes]] = []
+
+            def release() -> None:
+                holders[0].kill()
+                order(ours, "--release", "a1")
+                theirs.process.send_signal(signal.SIGCONT)
+
+            outcome = run_flows(programs, 9, [(0.2, lambda: holders.append(subprocess.Popen(asks))), (0.4, release)])
+            holders[0].wait()
+            check_order(outcome, f"through that {way}", ours.text())
+            check(within(COMES_UP, lambda: ours.links() == theirs.links() == 2), "both links carry", ours.text())
+            outcome = run_flows(programs, 2)
+            check(outcome.lost() == 0, f"{outcome.lost()} of {outcome.sent:,} frames are lost behind a flight", outcome, ours.text())
+            check_order(outcome, "then", ours.text())
+
+
 AWAY = "its carrier is away, for less than delay-down so far"
 # For how many milliseconds a carrier may be away.
 DELAY = 2500
@@ -222,4 +256,4 @@ def spared(programs: Programs) -> None:
             check(within(0.6, lambda: statuses(ours)[1] == "the interface is missing"), "it may vanish meanwhile", ours.text())
 
 
-PARTS: dict[str, Callable[[Programs], None]] = {it.__name__: it for it in (restores, spared, reverts, reverts_there, two_limits, collects)}
+PARTS: dict[str, Callable[[Programs], None]] = {it.__name__: it for it in (restores, spared, reverts, reverts_there, two_limits, collects, loses)}
