@@ -287,6 +287,7 @@ def stall(part: Part) -> None:
     """A daemon is stopped for 5 s. Its peer waits 90 s, and sends each second. Then all ticks would be made up at once: its own link
     would expire though LACPDUs wait for it."""
     ours, theirs = pair_up(part, theirs=["--timeout", "long"])
+    within(ENDS, lambda: all(ours.last_line(name).startswith("it distributes") for name in ("a0", "a1")))  # it prints at its tick
     lines, sent = ours.lines("a0"), ours.count("a0", "lacpdus_sent")
     ours.process.send_signal(signal.SIGSTOP)
     time.sleep(STALL)

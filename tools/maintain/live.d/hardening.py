@@ -129,6 +129,7 @@ def tags(part: Part) -> None:
 def many_markers(part: Part, count: int = 1000) -> None:
     """More markers than the standard lets a peer send: first nobody is known, and then they come from another one than the partner."""
     ours, wire = part.alone(), Wire(THEIRS, "b0")
+    time.sleep(0.5)  # the kernel begins to note times a bit later, and gives a frame before that the time when it is read
     for _ in range(count):
         wire.send(marker(1))
         time.sleep(0.003)
