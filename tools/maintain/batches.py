@@ -25,12 +25,17 @@ FUNCTION = re.compile(r"( *)(?:pub(?:\([\w:]+\))? )?(?:ghost |const |unsafe |ext
 # Of an error: where it is, and what it says. The prover's own words for a statement that it could not prove come in a note.
 ERROR = re.compile(r"(?:\./)?([^\s:]+):(\d+):\d+: error: (.*)|note: ([^\s:]+):(\d+):\d+: (it is not proved .*)")
 # An error before any proof, or a limit of the prover, by which nothing is known of the others.
-NO_VERDICT = re.compile(r"\S+:\d+:\d+: error\[|fn .*: could not tell|.*(ran out of (stack|the (steps|memory) that the check)|(outgrew the memory limit|stopped at the step limit) \()")
+NO_VERDICT = re.compile(
+    r"\S+:\d+:\d+: error\[|fn .*: could not tell"
+    r"|.*(ran out of (stack|the (steps|memory) that the check)|(outgrew the memory limit|stopped at the step limit) \()"
+)
 ANSWERS = re.compile(r"proofs/(.+)/(\w+)/Answers\.antt$")
 # What a proof says where an edit took away what it names.
 NAMED = re.compile(r"has no field|is not in scope|has no `|w(as|ere) not admitted")
 # What an error of a source says that is of a goal; without a goal before it the prover could not read the source.
-OF_GOAL = re.compile(r"`[^`]*`: (?!.*(is not in scope|has no field|is no name|operand is missing|expected the end|cannot continue|w(as|ere) not admitted))")
+OF_GOAL = re.compile(
+    r"`[^`]*`: (?!.*(is not in scope|has no field|is no name|operand is missing|expected the end|cannot continue|w(as|ere) not admitted))"
+)
 
 
 class Function(NamedTuple):
@@ -73,7 +78,7 @@ def around(within: Sequence[Function], line: int) -> Function | None:
 
 def changes(crate: str, trial: Trial) -> dict[str, dict[int, str]]:
     """The lines that an edit changes, from 1 on, as they would be, of each file below the crate's folder: each text stands in one line, and so does what
-    takes its place, so lines stay where they are. None where the edit cannot be made."""
+    takes its place, so lines stay where they are. Empty where the edit cannot be made."""
     was, now, _ = replaced(crate, trial.pairs)
     rows = {path: zip(text.splitlines(keepends=True), now[path].splitlines(keepends=True)) for path, text in was.items()}
     return {os.path.relpath(path, crate): {number: new for number, (old, new) in enumerate(its, 1) if old != new} for path, its in rows.items()}
@@ -99,12 +104,13 @@ def batches(crate: str, trials: Iterable[Trial]) -> list[list[Trial]]:
         changed = places(crate, trial)
         if not changed:
             continue
-        batch, others = next((it for it in found if len(it[0]) < MOST and not it[1] & changed), (None, None))
-        if batch is None or others is None:
-            found.append(([trial], changed))
+        for batch, others in found:
+            if len(batch) < MOST and not others & changed:
+                batch.append(trial)
+                others |= changed
+                break
         else:
-            batch.append(trial)
-            others |= changed
+            found.append(([trial], changed))
     return [batch for batch, _ in found]
 
 
@@ -119,7 +125,7 @@ def edited(crate: str, batch: Iterable[Trial]) -> dict[str, str]:
     return {file: "".join(lines) for file, lines in found.items()}
 
 
-def sources(crate: str, answers: str) -> list[Place]:
+def answered(crate: str, answers: str) -> list[Place]:
     """The functions that the answers of a proof may be of. Their folder is that of the function's file, or of its type's, with the type's name."""
     found = ANSWERS.match(answers)
     if not found:
@@ -149,7 +155,7 @@ def blamed(crate: str, lines: Iterable[str]) -> dict[Place, str] | None:
         elif NAMED.search(text):
             continue
         else:
-            its = sources(crate, file)
+            its = answered(crate, file)
         if len(its) != 1:
             return None
         found.setdefault(its[0], line)

@@ -22,7 +22,7 @@ from repository import RT, Missing
 # An edit, whether it passed, and what to print.
 Result = tuple[Trial, bool, str]
 # What `rt` says of an edit, of how far it is, and of an edit that the prover refuses.
-TOLD = re.compile(r"rt: must-fail (\w+)/(\S+\.edit): (.*)")
+TOLD = re.compile(r"rt: must-fail (\w+)/(\S+)\.edit: (.*)")
 AT = re.compile(r"rt: \w+(: its tests are)? (proved|NOT PROVED)|rt: \w+: trying its ")
 REFUSED = "refused, as it must be"
 # The prover gave no verdict: it says nothing of the contract.
@@ -30,14 +30,13 @@ LIMITED = f"{REFUSED} (only by a limit"
 
 
 class Attempt(NamedTuple):
-    """An edit with the file of must-fail that it is tried as."""
+    """An edit with the text of the file of must-fail as which it is tried, where it is tried alone."""
 
     trial: Trial
-    file: str
     text: str
 
 
-def attempt(kind: str, trial: Trial) -> Attempt:
+def attempt(trial: Trial) -> Attempt:
     """A stored edit."""
     rows, last = [], ""
     for file, old, new in trial.pairs:
@@ -45,7 +44,7 @@ def attempt(kind: str, trial: Trial) -> Attempt:
             rows.append(f"file: {file}")
         rows += [f"old: {old}", f"new: {new}"]
         last = file
-    return Attempt(trial, f"{kind}-{trial.name}.edit", "\n".join(rows) + "\n")
+    return Attempt(trial, "\n".join(rows) + "\n")
 
 
 def ran(folder: str, *words: str) -> list[str]:
@@ -64,11 +63,6 @@ def ran(folder: str, *words: str) -> list[str]:
     if rt.returncode not in (0, 1):
         raise Missing(f"{RT} {words[0]} ended with status {rt.returncode}:\n" + "".join(since[-12:]))
     return found
-
-
-def told_of(lines: Iterable[str]) -> dict[tuple[str, str], str]:
-    """What `rt` says of edits in these lines, by their crates and files."""
-    return {(it[1], it[2]): it[3] for it in filter(None, map(TOLD.match, lines))}
 
 
 def result(trial: Trial, is_right: bool, text: str) -> Result:
@@ -114,9 +108,10 @@ def tried(folder: str, attempts: list[Attempt]) -> Iterator[Result]:
         said = refused_together(pool, folder, [it for it in attempts if it.trial.crate in proved])
     alone = [it for it in attempts if it not in said and it.trial.crate in proved]
     for it in alone:
-        write(os.path.join(top, it.trial.crate, "must-fail", it.file), it.text)
-    told = told_of(ran(folder, "must-fail", *dict.fromkeys(it.trial.crate for it in alone)) if alone else [])
-    yield from (result(it.trial, *judged(said.get(it) or told.get((it.trial.crate, it.file)))) for it in attempts)
+        write(os.path.join(top, it.trial.crate, "must-fail", f"{it.trial.name}.edit"), it.text)
+    lines = ran(folder, "must-fail", *dict.fromkeys(it.trial.crate for it in alone)) if alone else []
+    told = {(it[1], it[2]): it[3] for it in filter(None, map(TOLD.match, lines))}
+    yield from (result(it.trial, *judged(said.get(it) or told.get((it.trial.crate, it.trial.name)))) for it in attempts)
 
 
 def named(every: dict[str, list[Trial]], words: list[str]) -> list[Trial]:

@@ -147,15 +147,20 @@ BEFORE_ATTACHED, SOON, LATER = 1.4, 0.3, 1.3
 STANDS_STILL: tuple[tuple[list[str], float], ...] = (([], SOON), (["--fast"], SOON), (["--fast"], LATER))
 
 
+def use_while_peer_stands(ours: End, theirs: End) -> None:
+    """A link goes out of use, and is used again while the peer stands still, which it does from here on."""
+    check(order(ours, "--hold", "a1").returncode == 0 and within(3, lambda: theirs.links() == 1), "a link is out of use", theirs.text())
+    used = order(ours, "--release", "a1").returncode == 0
+    time.sleep(BEFORE_ATTACHED)
+    theirs.process.send_signal(signal.SIGSTOP)
+    check(used and within(2, lambda: ours.links() == 2), "it is used again, while the peer stands still", ours.text())
+
+
 def collects(programs: Programs) -> None:
     """The peer stands still as a link is used again, so it does not collect there yet: what is to go there waits for that, but for a second at most."""
     for way, goes_on in STANDS_STILL:
         with pair(programs, options=way) as (_, ours, theirs):
-            check(order(ours, "--hold", "a1").returncode == 0 and within(3, lambda: theirs.links() == 1), "a link is out of use", theirs.text())
-            used = order(ours, "--release", "a1").returncode == 0
-            time.sleep(BEFORE_ATTACHED)
-            theirs.process.send_signal(signal.SIGSTOP)
-            check(used and within(2, lambda: ours.links() == 2), "it is used again, while the peer stands still", ours.text())
+            use_while_peer_stands(ours, theirs)
             outcome = run_flows(programs, 5, [(goes_on, lambda: theirs.process.send_signal(signal.SIGCONT))])
             check(within(COMES_UP, lambda: theirs.links() == 2), "the peer uses it, too", theirs.text())
             check_order(outcome, f"a peer goes on after {goes_on} s {way}", ours.text())
@@ -169,16 +174,12 @@ def collects(programs: Programs) -> None:
 MUTE_FLIGHT = 4000
 
 
-def loses(programs: Programs) -> None:
+def mute_collects(programs: Programs) -> None:
     """A link goes out of use while data waits for the peer to collect there, and comes back within a flight. The peer answers no markers: what was to go
     there is held for a flight, and goes on then."""
     for way in WAYS:
         with two_ends(programs, ["--flight", str(MUTE_FLIGHT), *way], ["--marker-responses", "0"], "not answered") as (ours, theirs):
-            check(order(ours, "--hold", "a1").returncode == 0 and within(3, lambda: theirs.links() == 1), "a link is out of use", theirs.text())
-            used = order(ours, "--release", "a1").returncode == 0
-            time.sleep(BEFORE_ATTACHED)
-            theirs.process.send_signal(signal.SIGSTOP)
-            check(used and within(2, lambda: ours.links() == 2), "it is used again, while the peer stands still", ours.text())
+            use_while_peer_stands(ours, theirs)
             # Who asks for a hold asks again until the peer saw it.
             asks = ["ip", "netns", "exec", ours.space, ours.program, "--folder", ours.folder, "--hold", "a1"]
             holders: list[subprocess.Popen[bytes]] = []
@@ -256,4 +257,4 @@ def spared(programs: Programs) -> None:
             check(within(0.6, lambda: statuses(ours)[1] == "the interface is missing"), "it may vanish meanwhile", ours.text())
 
 
-PARTS: dict[str, Callable[[Programs], None]] = {it.__name__: it for it in (restores, spared, reverts, reverts_there, two_limits, collects, loses)}
+PARTS: dict[str, Callable[[Programs], None]] = {it.__name__: it for it in (restores, spared, reverts, reverts_there, two_limits, collects, mute_collects)}

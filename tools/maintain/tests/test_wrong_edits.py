@@ -100,9 +100,9 @@ TRIALS = [edits.Trial("captures", name, pairs) for name, pairs in EDITS.items()]
 
 def test_an_edit_is_a_file_of_must_fail() -> None:
     text = "file: src/a.rt\nold: 1\nnew: 2\nold: return 3;\nnew: \nfile: specs/A.antt\nold: 4\nnew: 5\n"
-    assert prover.attempt("body", TRIALS[0]) == (TRIALS[0], "body-one.edit", text)
+    assert prover.attempt(TRIALS[0]) == (TRIALS[0], text)
     for it in edits.must_fail("cables"):
-        assert edits.read_trial("cables", it.name, prover.attempt("body", it).text.splitlines()) == it
+        assert edits.read_trial("cables", it.name, prover.attempt(it).text.splitlines()) == it
 
 
 @pytest.mark.parametrize(
@@ -132,15 +132,15 @@ def fake(monkeypatch: pytest.MonkeyPatch, folder: Path, *lines: str, status: int
 
 
 ERROR = "./proofs/A.antt:3:4: error: no"
-PASSED = "rt: must-fail captures/body-one.edit: refused, as it must be: note: src/a.rt:3:4: it is not proved"
+PASSED = "rt: must-fail captures/one.edit: refused, as it must be: note: src/a.rt:3:4: it is not proved"
 
 
 def test_each_edit_that_is_asked_has_a_line(tmp_path: Path, monkeypatch: pytest.MonkeyPatch, capsys: pytest.CaptureFixture[str]) -> None:
-    fake(monkeypatch, tmp_path, PASSED, "rt: must-fail captures/other.edit: refused, as it must be", status=1)
-    results = list(prover.tried(str(tmp_path / "copy"), [prover.attempt("body", it) for it in TRIALS]))
+    fake(monkeypatch, tmp_path, PASSED, "rt: must-fail captures/another.edit: refused, as it must be", status=1)
+    results = list(prover.tried(str(tmp_path / "copy"), [prover.attempt(it) for it in TRIALS]))
     assert [(trial.name, is_right) for trial, is_right, _ in results] == [("one", True), ("other", False)]
     assert "was not tried" in results[1][2]
-    assert sorted(it.name for it in (tmp_path / "copy" / "crates" / "captures" / "must-fail").iterdir()) == ["body-one.edit", "body-other.edit"]
+    assert sorted(it.name for it in (tmp_path / "copy" / "crates" / "captures" / "must-fail").iterdir()) == ["one.edit", "other.edit"]
     assert prover.told(iter(results)) == 1
     assert capsys.readouterr().out.endswith("\n1 passed, 1 failed\n")
     assert (prover.told(iter(results[:1])), prover.told(iter(()))) == (0, 1)
@@ -151,7 +151,7 @@ def test_why_a_crate_is_not_proved_is_told(tmp_path: Path, monkeypatch: pytest.M
     prover.ran(str(tmp_path), "ci")
     assert capsys.readouterr().err == f"rt: low proved\n== captures\n{ERROR}\nrt: captures NOT PROVED\n"
     (tmp_path / "rt").write_text(f"#!/bin/sh\necho '{ERROR}'\nexit 1\n")
-    assert [it[1] for it in prover.tried(str(tmp_path / "copy"), [prover.attempt("body", TRIALS[0])])] == [False]
+    assert [it[1] for it in prover.tried(str(tmp_path / "copy"), [prover.attempt(TRIALS[0])])] == [False]
     assert capsys.readouterr().err == f"captures is not proved:\n{ERROR}\n"
     fake(monkeypatch, tmp_path, "rt: crates.txt names no crate", status=2)
     with pytest.raises(Missing, match="ci ended with status 2:\nrt: crates.txt names no crate"):

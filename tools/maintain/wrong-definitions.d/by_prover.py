@@ -83,7 +83,7 @@ def names_below(trial: Trial) -> bool:
 
 def attempts(trials: list[Trial]) -> list[Attempt]:
     """Those of these edits that are tried as must-fail."""
-    return [prover.attempt("definition", it) for it in trials if it.crate in CRATES and not it.fault() and not names_below(it)]
+    return [prover.attempt(it) for it in trials if it.crate in CRATES and not it.fault() and not names_below(it)]
 
 
 def read_on(results: Iterable[Result], laws: list[Attempt]) -> Iterator[Result]:
