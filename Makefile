@@ -36,7 +36,7 @@ ifneq ($(LAG_FOLDER),)
 out/lib/liblag.so.0: $(LAG_FOLDER)/liblag.so.0 $(LAG_FOLDER)/liblag.a $(HEADER) out/lib/taken-from
 	mkdir -p out/lib
 	cp $(HEADER) $(LAG_FOLDER)/liblag.a out/lib/
-	ln -sf liblag.so.0 out/lib/liblag.so
+	cp $(LAG_FOLDER)/liblag.so.0 out/lib/liblag.so.new && mv out/lib/liblag.so.new out/lib/liblag.so
 	cp $(LAG_FOLDER)/liblag.so.0 $@.new && mv $@.new $@
 else
 out/lib/liblag.so.0: c/lag.c $(HEADER) tools/library tools/library.py out/lib/taken-from

@@ -50,6 +50,7 @@ def test_another_compiler_other_words_or_another_folder_make_the_library_anew(cl
     for name in ("liblag.so.0", "liblag.a"):
         (clone / "folder" / name).write_text("taken\n")
     assert make(clone, "LAG_FOLDER=folder") == 0 and made(clone) == ["taken"]
+    assert not any(it.is_symlink() for it in (clone / "out").rglob("*"))  # the toolchain takes no clone with a link
     assert make(clone) == 0 and made(clone) == ["taken", "cc -O2"]
 
 
