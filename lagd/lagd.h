@@ -212,15 +212,31 @@ struct store {
     size_t count;
 };
 
-/* What prints lines, in the journal, too, and tells them to watchers. Who has it without const may print one. */
+/* What a function may touch is what it is handed. A part that it gets as `const struct` stays as it is, with all to which it leads but what another
+ * parameter names. Without const it may change, with all to which it leads, and so may
+ *
+ *   printer            what is told: a line is printed, in the journal, too, and watchers get it
+ *   core               the library's state. Where the library refuses a call a line says so, the peers are told, and the daemon ends
+ *   link               what its sockets do: a frame goes, the kernel is asked for the interface
+ *   process            the files of the daemon, and what the manager of services keeps
+ *   device             the device of the host in the kernel: its carrier, MTU, speed
+ *   carry, plane, tap_plane, team_plane
+ *                      data: frames go, wait and are handed up, conversations move, another aggregator is chosen, and the kernel gets what it
+ *                      is to do with frames, members and the device
+ *   protocol           all that LACP does: LACPDUs that are due go, interfaces are taken up and released, what the kernel tells is followed, the
+ *                      plane learns of it, and so do the manager of services, watchers and the hook
+ *
+ * A name says which of it a function does. By one with `_or_end` the daemon may end in order, by one with `_or_stop` at once. What is only shown is asked
+ * of the library with const, too. */
+
+/* What prints lines. */
 struct printer {
     const struct process *process; /* whose lines */
     struct status *watchers; /* who does not keep up is let go */
     int output, journal; /* what they are written to, once there were some, or -1 */
 };
 
-/* The system of the library. Who has it without const may call the library; where that refuses, a line says so, the peers are told, and the daemon
- * ends. What is only shown is asked with const, too. By a name with `_or_end` the daemon may end so, by one with `_or_stop` at once. */
+/* The system of the library. */
 struct core {
     struct niw_system system;
     struct printer *printer;
@@ -308,8 +324,7 @@ struct protocol {
     struct choice choice;
 };
 
-/* What each part above the protocol knows, in its own fields, and in one that is given as a whole. A part that a function gets as `const struct`
- * stays as it is, with all to which it leads but what another parameter names, the kernel and files; without const something may change. */
+/* What each part above the protocol leads to. */
 #define PARTS \
     struct process *process; \
     struct core *core; \
