@@ -16,7 +16,6 @@ struct daemon {
 
 struct asking {
     struct printer *printer;
-    struct report *report;
     const struct options *options;
     struct found found;
     struct daemon daemons[MOST_DAEMONS];
@@ -25,6 +24,7 @@ struct asking {
 };
 
 #define EACH_DAEMON(it, own) for (struct daemon *it = (own)->daemons; it < (own)->daemons + (own)->count; it++)
+#define EACH_DAEMON_AS_IS(it, own) for (const struct daemon *it = (own)->daemons; it < (own)->daemons + (own)->count; it++)
 
 /* Connects with a daemon and asks it; or -errno. It waits no longer than PATIENCE: one that is stopped may answer nobody. */
 static int ask_socket(const char *path, const char *question) {
@@ -91,23 +91,23 @@ static void print_metrics(const struct asking *own) {
 }
 
 /* Prints which bundles have a daemon that answers, and when that was. */
-static void print_who_answers(struct asking *own) {
-    own->report->length = 0;
-    add_head(own->report, "up", "gauge", "whether the daemon of the bundle answers");
-    EACH_DAEMON(it, own)
-        if (it->may_ask) add_value_of(own->report, "up", it->bundle, it->answer != NULL);
-    add_head(own->report, "time_seconds", "gauge", "when this was asked");
-    add(own->report, "lagd_time_seconds %llu\n", (unsigned long long)time(NULL));
-    print_shown(own->report->text, own->report->length);
+static void print_who_answers(struct report *report, const struct asking *own) {
+    report->length = 0;
+    add_head(report, "up", "gauge", "whether the daemon of the bundle answers");
+    EACH_DAEMON_AS_IS(it, own)
+        if (it->may_ask) add_value_of(report, "up", it->bundle, it->answer != NULL);
+    add_head(report, "time_seconds", "gauge", "when this was asked");
+    add(report, "lagd_time_seconds %llu\n", (unsigned long long)time(NULL));
+    print_shown(report->text, report->length);
 }
 
-static _Noreturn void refuse_all_and_stop(const struct asking *own) {
-    if (own->denied) stop(REFUSED, "permission denied", own->denied);
-    stop(REFUSED, "no lagd answers in", own->options->folder);
+static _Noreturn void refuse_all_and_stop(const char *denied, const char *folder) {
+    if (denied) stop(REFUSED, "permission denied", denied);
+    stop(REFUSED, "no lagd answers in", folder);
 }
 
 /* Prints what the daemons say, one after the other as each has a line, until they end. */
-static int print_changes_of_all(struct asking *own) {
+static int print_changes_of_all(struct printer *printer, const struct asking *own) {
     struct pollfd waits[MOST_DAEMONS];
     char text[4096 + 1];
     unsigned left = 0;
@@ -120,7 +120,7 @@ static int print_changes_of_all(struct asking *own) {
             if (!waits[i].revents) continue;
             ssize_t got = recv(waits[i].fd, text, sizeof text - 1, 0);
             text[got > 0 ? got : 0] = 0;
-            if (got > 0 && !tell_refusal(own->printer, own->daemons[i].path, text)) print_shown(text, (size_t)got);
+            if (got > 0 && !tell_refusal(printer, own->daemons[i].path, text)) print_shown(text, (size_t)got);
             if (got <= 0) waits[i].fd = -1;
             left -= got <= 0;
         }
@@ -136,7 +136,7 @@ static const char *status_question(const struct options *options) {
 }
 
 /* Asks a daemon, and whether it answers before it is watched. One that does not has a line. */
-static bool ask_one(struct asking *own, struct daemon *daemon) {
+static bool ask_one_or_stop(struct asking *own, struct daemon *daemon) {
     bool watched = own->options->action == WATCH;
     CLOSED_FILE int fd = ask_socket(daemon->path, status_question(own->options));
     daemon->may_ask = fd != -EACCES && fd != -EPERM;
@@ -148,38 +148,37 @@ static bool ask_one(struct asking *own, struct daemon *daemon) {
 }
 
 /* Tells a daemon an order; answers what it said, without the line end. */
-static char *tell_order_or_stop(struct asking *own, const char *path, const char *what) {
-    const char *interface = own->options->interface;
+static char *tell_order_or_stop(struct printer *printer, const char *interface, const char *path, const char *what) {
     char order[QUESTION_ROOM], *answer;
     if (snprintf(order, sizeof order, "%s %s\n", what, interface) >= (int)sizeof order || strchr(interface, '\n'))
         stop(WRONG_WORD, "expected the name of an interface", interface);
     CLOSED_FILE int fd = ask_socket(path, order);
     if (fd < 0) stop(REFUSED, path, strerror(-fd));
-    answer = read_whole_answer_or_stop(own->printer, fd, path);
+    answer = read_whole_answer_or_stop(printer, fd, path);
     if (answer) answer[strcspn(answer, "\n")] = 0;
     return answer;
 }
 
 /* The socket of the one daemon of a folder: one that was killed may have left another there. */
-static const char *find_daemon_or_stop(struct asking *own) {
-    const char *found = NULL;
-    EACH_DAEMON(it, own) {
+static const char *find_daemon_or_stop(const struct asking *own) {
+    const char *found = NULL, *denied = own->denied;
+    EACH_DAEMON_AS_IS(it, own) {
         CLOSED_FILE int fd = ask_socket(it->path, "");
-        if (fd == -EACCES) own->denied = it->path;
+        if (fd == -EACCES) denied = it->path;
         if (fd < 0) continue;
         if (found) stop(WRONG_WORD, "more than one lagd is here: give the folder of one by --folder", own->options->folder);
         found = it->path;
     }
-    if (!found) refuse_all_and_stop(own);
+    if (!found) refuse_all_and_stop(denied, own->options->folder);
     return found;
 }
 
 /* Has the one daemon of a folder change its bundle, and waits until that is done; answers how the program ends. */
-static int order_daemon(struct asking *own) {
+static int order_daemon_or_stop(struct printer *printer, const struct asking *own) {
     const char *what = own->options->order, *path = find_daemon_or_stop(own);
     bool waits = true;
     while (waits) {
-        char *answer = tell_order_or_stop(own, path, what);
+        char *answer = tell_order_or_stop(printer, own->options->interface, path, what);
         if (!answer) return REFUSED;
         waits = strncmp(answer, "wait: ", 6) == 0;
         if (!waits) print_shown(answer, strlen(answer));
@@ -191,22 +190,22 @@ static int order_daemon(struct asking *own) {
     return fflush(stdout) == 0 ? DONE : REFUSED;
 }
 
-int ask_daemons(struct printer *printer, struct report *report, const struct options *options) {
+int ask_daemons_or_stop(struct printer *printer, struct report *report, const struct options *options) {
     static struct asking own; /* its answers stay until the program ends */
     unsigned answers = 0;
-    own = (struct asking){.printer = printer, .report = report, .options = options};
+    own = (struct asking){.printer = printer, .options = options};
     find_sockets(&own.found, options->folder, true);
     own.denied = own.found.denied;
     for (; own.count < own.found.count; own.count++)
         own.daemons[own.count] = (struct daemon){.path = own.found.sockets[own.count].path, .bundle = own.found.sockets[own.count].bundle};
-    if (options->action == ORDER) return order_daemon(&own);
+    if (options->action == ORDER) return order_daemon_or_stop(printer, &own);
     if (options->action == SHOW_CONFIG) (void)find_daemon_or_stop(&own); /* a file has one bundle */
-    EACH_DAEMON(it, &own) answers += ask_one(&own, it);
-    if (answers == 0 && (options->action != METRICS || own.count == 0 || own.denied)) refuse_all_and_stop(&own);
-    if (options->action == WATCH) return print_changes_of_all(&own);
+    EACH_DAEMON(it, &own) answers += ask_one_or_stop(&own, it);
+    if (answers == 0 && (options->action != METRICS || own.count == 0 || own.denied)) refuse_all_and_stop(own.denied, options->folder);
+    if (options->action == WATCH) return print_changes_of_all(printer, &own);
     if (options->action == METRICS) {
         print_metrics(&own);
-        print_who_answers(&own);
+        print_who_answers(report, &own);
     } else
         EACH_DAEMON(it, &own)
             if (it->answer) print_shown(it->answer, strlen(it->answer));

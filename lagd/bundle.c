@@ -45,7 +45,7 @@ static void run_hook(struct printer *printer, const struct bundle *now, enum bun
     if (fault < 0) (void)say(printer, LOG_WARNING | ABOUT_HOOK, "hook %s: %s", printer->process->settings->hook, strerror(-fault));
 }
 
-static void enter_state_and_tell_all(struct core *core, struct bundle *own, const struct bundle *now, const struct control *control) {
+static void enter_state_run_hook_and_tell_all(struct core *core, struct bundle *own, const struct bundle *now, const struct control *control) {
     const struct settings *settings = core->settings;
     enum bundle_state before = own->state;
     *own = *now;
@@ -75,12 +75,12 @@ void choose_and_tell_bundle(struct protocol *protocol) {
     if (now.changed_at == 0) now.changed_at = time(NULL);
     now.reported = true;
     if (now.lines_left > 0) now.lines_left--;
-    enter_state_and_tell_all(protocol->core, &protocol->bundle, &now, protocol->control);
+    enter_state_run_hook_and_tell_all(protocol->core, &protocol->bundle, &now, protocol->control);
 }
 
-void enter_down_state_and_tell_all(struct core *core, struct bundle *own, const struct control *control) {
+void enter_down_state_run_hook_and_tell_all(struct core *core, struct bundle *own, const struct control *control) {
     struct bundle now = *own;
     now.state = BUNDLE_DOWN;
     now.aggregator = now.carrying = 0;
-    if (own->state != BUNDLE_DOWN) enter_state_and_tell_all(core, own, &now, control);
+    if (own->state != BUNDLE_DOWN) enter_state_run_hook_and_tell_all(core, own, &now, control);
 }

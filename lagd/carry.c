@@ -46,12 +46,12 @@ void count_and_forget_heard(struct carry *carry) {
 
 /* A frame came in an aggregator that is not the active one. If no aggregator has more than that one, the peer may send there. It is looked
  * at once a tick, however many frames come, and only in a tick in which one does: few frames take long. */
-void suspect_or_follow_aggregator(struct carry *carry, uint32_t aggregator) {
+void doubt_active_or_follow_peer(struct carry *carry, uint32_t aggregator) {
     if (carry->looked_at == carry->time || carry->active == 0 || aggregator == carry->active) return;
     carry->looked_at = carry->time;
     uint64_t patience = patience_with(carry->protocol, carry->active, (uint16_t)aggregator);
     carry->elsewhere += NIW_TICK_MILLISECONDS;
-    if (patience != 0 && carry->elsewhere > patience) follow_peer(carry->protocol, (uint16_t)aggregator);
+    if (patience != 0 && carry->elsewhere > patience) follow_peer(carry->core, &carry->protocol->choice, carry->protocol, (uint16_t)aggregator);
     else if (carry->heard_at == 0 || !is_as_good_as_any(carry->core, carry->protocol, (uint16_t)aggregator)) return;
     carry->heard_at = 0;
     carry->plane->changed = true;
@@ -64,21 +64,22 @@ bool heard_peer_lately(const struct plane *plane) {
     return carry->heard_at != 0 && carry->time - carry->heard_at < HEARD;
 }
 
-/* Notes the ports of the active aggregator that carry, those that are emptied or the others. */
-static void note_active_ports(struct carry *carry, bool emptying) {
-    carry->active_count = 0;
-    EACH_LINK(link, carry->ports)
+/* Writes the ports of the active aggregator that carry, those that are emptied or the others; answers how many. */
+static uint16_t list_active_ports(const struct carry *carry, bool emptying, uint16_t ports[static NIW_MOST_PORTS]) {
+    uint16_t count = 0;
+    EACH_LINK_AS_IS(link, carry->ports)
         if (carry->active != 0 && link->view.aggregator == carry->active && carries(carry->protocol, link) && link->emptying == emptying)
-            carry->active_ports[carry->active_count++] = link->settings.number;
+            ports[count++] = link->settings.number;
+    return count;
 }
 
 /* Notes since when the partner of each port that distributes is to say that it collects: it learns by our LACPDU that it has to. */
-static void note_partners_to_collect(struct carry *carry) {
-    EACH_LINK_AS_IS(link, carry->ports) {
+static void note_partners_to_collect(uint64_t to_collect_since[static NIW_MOST_PORTS], const struct ports *ports, uint64_t time) {
+    EACH_LINK_AS_IS(link, ports) {
         const struct niw_view *view = &link->view;
-        uint64_t *since = &carry->to_collect_since[link->settings.number - 1];
+        uint64_t *since = &to_collect_since[link->settings.number - 1];
         bool due = (view->state & NIW_STATE_DISTRIBUTING) != 0 && !view->defaulted && (view->partner_state & NIW_STATE_COLLECTING) == 0;
-        if (!due || *since == 0) *since = due ? carry->time : 0;
+        if (!due || *since == 0) *since = due ? time : 0;
     }
 }
 
@@ -97,9 +98,9 @@ void choose_ports_and_tell_host(struct plane *plane) {
     read_views_and_count(carry->core, carry->ports);
     choose_aggregator(carry->protocol, &now);
     carry->active = now.carrying >= carry->settings->min_links ? now.aggregator : 0;
-    note_partners_to_collect(carry);
-    note_active_ports(carry, false);
-    if (carry->active_count == 0) note_active_ports(carry, true); /* while there is no other */
+    note_partners_to_collect(carry->to_collect_since, carry->ports, carry->time);
+    carry->active_count = list_active_ports(carry, false, carry->active_ports);
+    if (carry->active_count == 0) carry->active_count = list_active_ports(carry, true, carry->active_ports); /* while there is no other */
     if (before != 0 && carry->active != 0 && before != carry->active) carry->counts[SWITCHES]++;
     if ((before == 0) != (carry->active == 0))
         (void)say(carry->core->printer, LOG_NOTICE | ABOUT_CARRIER, "carry %s: carrier %s", carry->settings->carry, carry->active ? "on" : "off");
@@ -109,7 +110,7 @@ void choose_ports_and_tell_host(struct plane *plane) {
 }
 
 /* The last daemon carried in this aggregator, and the peer does, too. */
-void go_on_in(struct carry *carry, uint16_t aggregator) {
+void recall_active_aggregator(struct carry *carry, uint16_t aggregator) {
     for (unsigned i = 0; i < NIW_MOST_PORTS; i++) carry->to_collect_since[i] = 1; /* long ago: what distributes already waits for nothing */
     carry->time = carry->heard_at = milliseconds();
     carry->active = carry->previous = aggregator;
@@ -138,7 +139,7 @@ void note_heard(struct carry *carry) {
 }
 
 /* After calls that may have changed something: the active aggregator, and what goes on in it. */
-void settle_carry(struct plane *plane) {
+void settle_carry_or_lose_member(struct plane *plane) {
     if (plane->carry->core->broken || !plane->changed) return;
     plane->changed = false;
     CALL(plane->carrying->settle, plane);
@@ -147,7 +148,7 @@ void settle_carry(struct plane *plane) {
 /* A port on defaults sends an LACPDU each 30 s only, so a link that was silent for more than 6 s would be long in coming back. As one
  * whose link came up it sends one each second. It is done to ports that carry nothing, after a second, and then after twice as long each
  * time. */
-static void wake_sleeper(struct carry *carry, const struct link *link) {
+static void restart_port_on_defaults(struct carry *carry, const struct link *link) {
     uint16_t port = link->settings.number;
     bool sleeps = link->up && link->view.receive_state == NIW_RECEIVE_DEFAULTED && (carry->active == 0 || link->view.aggregator != carry->active);
     unsigned *after = &carry->wakes_after[port - 1], *ticks = &carry->on_defaults[port - 1];
@@ -163,14 +164,14 @@ static void wake_sleeper(struct carry *carry, const struct link *link) {
     carry->counts[WOKEN]++;
 }
 
-void begin_carry_tick_and_announce(struct carry *carry) {
-    carry->time = milliseconds();
-    pass_tap_tick(carry->device);
-    pass_announcing_tick(carry->core->printer, &carry->announce, carry->device);
+void begin_carry_tick_and_announce(struct printer *printer, struct device *device, uint64_t *time, struct announce *announce) {
+    *time = milliseconds();
+    pass_tap_tick(printer, &device->carrier_ticks, device);
+    pass_announcing_tick(printer, announce, device);
 }
 
-void end_carry_tick_and_wake_ports(struct carry *carry) {
+void end_carry_tick_and_restart_ports(struct carry *carry) {
     EACH_LINK_AS_IS(link, carry->ports)
-        if (!carry->core->broken) wake_sleeper(carry, link);
+        if (!carry->core->broken) restart_port_on_defaults(carry, link);
     carry->plane->changed = carry->to_balance = true;
 }

@@ -77,7 +77,7 @@ struct carry {
     uint16_t previous; /* the aggregator that was active before nothing or another one was, or 0 */
     uint64_t heard_at; /* the time at which frames came in the active aggregator last, or 0 */
     uint64_t heard_before; /* how many had come in an active one then */
-    uint64_t looked_at; /* of suspect_or_follow_aggregator */
+    uint64_t looked_at; /* of doubt_active_or_follow_peer */
     uint64_t elsewhere; /* 100 for each tick in which a frame came in another aggregator, since one came in the active one */
     unsigned on_defaults[NIW_MOST_PORTS]; /* ticks for which a port ran on defaults */
     unsigned wakes_after[NIW_MOST_PORTS]; /* how many of them it may */
@@ -92,10 +92,10 @@ void recall_answering(struct probe *own, const struct carry *carry, enum answeri
 void reset_if_other_partner(struct probe *own, const struct carry *carry);
 
 /* resume.c */
-void resume_conversations(struct plane *plane, bool goes_on);
+void resume_conversations_or_end(struct plane *plane, bool goes_on);
 
 /* carry.c */
-void go_on_in(struct carry *carry, uint16_t aggregator);
+void recall_active_aggregator(struct carry *carry, uint16_t aggregator);
 bool ask_state(struct core *core, uint16_t aggregator, uint16_t number, struct niw_assignment *state) MUST_USE;
 bool ask_ports(struct core *core, uint16_t aggregator, uint16_t *ports) MUST_USE;
 bool is_held(const struct niw_assignment *state);
@@ -105,16 +105,16 @@ void count_and_forget_heard(struct carry *carry);
 bool awaits_collecting(const struct carry *carry, uint16_t port);
 bool leave_previous(struct carry *carry);
 void choose_ports_and_tell_host(struct plane *plane);
-void begin_carry_tick_and_announce(struct carry *carry);
+void begin_carry_tick_and_announce(struct printer *printer, struct device *device, uint64_t *time, struct announce *announce);
 void note_heard(struct carry *carry);
-void end_carry_tick_and_wake_ports(struct carry *carry);
-void suspect_or_follow_aggregator(struct carry *carry, uint32_t aggregator);
+void end_carry_tick_and_restart_ports(struct carry *carry);
+void doubt_active_or_follow_peer(struct carry *carry, uint32_t aggregator);
 
 /* flight.c */
 bool is_told_distributing(struct core *core, uint16_t port, bool wanted);
 
 /* moves.c */
-void ask_moves(struct carry *carry);
+void mark_busy_to_move(struct carry *carry);
 bool can_empty(const struct plane *plane, const struct link *link);
 bool empty_port_and_send(struct plane *plane, const struct link *link);
 void balance_and_send(struct carry *carry);

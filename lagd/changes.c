@@ -44,23 +44,24 @@ static bool is_named(const struct interface *interface, const char *name) {
 }
 
 /* Takes up an interface that has the name of a port. At the start, what is wrong with one ends the program. */
-static bool take_up_or_stop(struct protocol *protocol, struct link *link, const struct interface *interface) {
+static bool take_up_or_stop(struct process *process, struct plane *plane, bool *ask_again, const struct protocol *protocol, struct link *link,
+    const struct interface *interface) {
     char what[128], holder[HOLDER_ROOM];
     if (interface->type != ARPHRD_ETHER) {
-        if (!protocol->process->has_started && !link->left_over) stop(WRONG_WORD, "not an Ethernet interface", link->name);
+        if (!process->has_started && !link->left_over) stop(WRONG_WORD, "not an Ethernet interface", link->name);
         return false;
     }
     if (note_whether_outside(protocol, link, interface->master)) return false;
     memcpy(link->discipline, interface->discipline, sizeof link->discipline);
     if (interface->has_mac) memcpy(link->mac, interface->mac, sizeof link->mac);
     link->stacked = is_stacked(interface);
-    if (take_up_interface(protocol->process, protocol->plane, link, interface->index)) {
+    if (take_up_interface(process, plane, link, interface->index)) {
         link->kernel_losses = interface->losses;
         link->puts_in = false;
         return true;
     }
-    if (protocol->process->has_started) protocol->changes.ask_again = true;
-    if (protocol->process->has_started || link->left_over) return false;
+    if (process->has_started) *ask_again = true;
+    if (process->has_started || link->left_over) return false;
     if (link->trouble != EADDRINUSE) stop(REFUSED, link->name, strerror(link->trouble));
     snprintf(what, sizeof what, "another lagd has the interface, %s", holder_of(protocol->ports, link->index, holder));
     stop(REFUSED, what, link->name);
@@ -79,7 +80,8 @@ static void follow_link(struct protocol *protocol, struct link *link, const stru
     const unsigned carried = IFF_UP | IFF_RUNNING | IFF_LOWER_UP;
     bool carrier = (interface->flags & carried) == carried, lost = false;
     if (interface->has_mac) set_mac_and_move_kept(protocol->plane, link, interface->mac);
-    if (interface->discipline[0] && strcmp(link->discipline, interface->discipline) != 0 && !reopen_member(protocol->plane, link)) {
+    if (interface->discipline[0] && strcmp(link->discipline, interface->discipline) != 0
+        && !read_discipline_and_renew_or_end(protocol->plane, link)) {
         lose_link_and_ask_again(protocol, link);
         return;
     }
@@ -91,7 +93,7 @@ static void follow_link(struct protocol *protocol, struct link *link, const stru
         lost = losses > 0;
         link->counts[LOSSES] += losses;
     }
-    bool was_away = link->away, other = carrier && (lost || link->away) && has_other_speed(protocol->settings, link);
+    bool was_away = link->away, other = carrier && (lost || link->away) && read_whether_speed_differs(protocol->settings, link);
     bool spared = (interface->flags & IFF_UP) && note_whether_stays_up(protocol->process, link, carrier, lost) && !other;
     if (spared && !carrier && !was_away && !lost) link->counts[LOSSES]++; /* of a kernel that does not count them */
     if (spared && !carrier) return;
@@ -102,7 +104,7 @@ static void follow_link(struct protocol *protocol, struct link *link, const stru
     if ((lost && !spared) || !carrier) set_waiting(link, false);
     bool up = carrier && !protocol->halt.silent && choose_aggregator_and_set_waiting(protocol, link);
     if (up && !link->up) fit_queue(protocol->plane, link);
-    if (up) note_speed_and_set_key(protocol, link);
+    if (up && note_speed_and_set_key(protocol->core, &protocol->keys, protocol->ports, link)) protocol->plane->changed = true;
     if (up) CALL(protocol->plane->carrying->follow_speed, protocol->plane, link);
     set_link_send_and_tell(protocol, link, up);
 }
@@ -119,7 +121,7 @@ static void follow_present_or_stop(struct protocol *protocol, const struct inter
     if (interface->index == protocol->device->index) {
         protocol->changes.tap_named = true;
         protocol->plane->changed = true;
-        follow_tap(protocol->device, interface->carrier, interface->discipline);
+        follow_tap_withdraw_open_host_or_end(protocol->device, interface->carrier, interface->discipline);
         CALL(protocol->plane->carrying->settle_mtu, protocol->device);
         halt_or_go_on_with_device(protocol, (interface->flags & IFF_UP) != 0);
     }
@@ -136,12 +138,14 @@ static void follow_present_or_stop(struct protocol *protocol, const struct inter
         known = known || named;
         if (!named) continue;
         link->present = true;
-        if (link->socket >= 0 || take_up_or_stop(protocol, link, interface)) follow_link(protocol, link, interface);
+        if (link->socket >= 0
+            || take_up_or_stop(protocol->process, protocol->plane, &protocol->changes.ask_again, protocol, link, interface))
+            follow_link(protocol, link, interface);
     }
     if (!known) join_followed_port(protocol, interface);
 }
 
-static void lose_and_forget_absent(struct protocol *protocol, const struct interface *interface) {
+static void lose_absent_and_drop_kept_or_end(struct protocol *protocol, const struct interface *interface) {
     if (interface->index == protocol->device->index) CALL(protocol->plane->carrying->lose_device, protocol->plane);
     EACH_LINK(link, protocol->ports) {
         if (link->index != interface->index) continue;
@@ -189,7 +193,7 @@ static void follow_change_or_stop(struct protocol *protocol, const struct nlmsgh
     if ((type != RTM_NEWLINK && type != RTM_DELLINK) || length < sizeof *info || info->ifi_family != AF_UNSPEC) return;
     struct interface interface = read_interface(message);
     if (type == RTM_NEWLINK && interface.name[0]) follow_present_or_stop(protocol, &interface);
-    if (type == RTM_DELLINK) lose_and_forget_absent(protocol, &interface);
+    if (type == RTM_DELLINK) lose_absent_and_drop_kept_or_end(protocol, &interface);
 }
 
 void follow_messages_or_stop(struct protocol *protocol, const void *messages, size_t length) {

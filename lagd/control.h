@@ -18,14 +18,13 @@ struct report {
 struct control {
     PARTS
     struct carry *carry;
-    struct report *report;
 };
 
 /* options.c */
-void read_options_or_stop(struct process *process, int argc, char **argv, struct options *options);
+void read_options_and_file_or_stop(struct process *process, int argc, char **argv, struct options *options);
 
 /* possible.c */
-int choose_plane_and_check(struct printer *printer, struct plane *plane, const struct options *options);
+int choose_plane_unshare_and_check(struct printer *printer, struct plane *plane, const struct options *options);
 int tell_lack(struct printer *printer, const struct options *options, const char *key, const char *what, int status);
 int check_programs(struct printer *printer, const struct options *options, const char *key, bool waits);
 
@@ -55,6 +54,6 @@ void add_value_of(struct report *report, const char *name, const char *bundle, u
 void add_port_value(struct report *report, const char *bundle, const char *name, const struct link *link, uint64_t value);
 
 /* asking.c */
-int ask_daemons(struct printer *printer, struct report *report, const struct options *options);
+int ask_daemons_or_stop(struct printer *printer, struct report *report, const struct options *options);
 
 #endif

@@ -46,10 +46,10 @@ static inline void join_parts(struct lagd *lagd) {
 }
 
 /* A daemon is made: its memory goes with the program. */
-static inline struct lagd *make_lagd(void) {
-    struct lagd *lagd = make_room(sizeof *lagd);
+static inline struct lagd *make_lagd_or_stop(void) {
+    struct lagd *lagd = allocate_or_stop(sizeof *lagd);
     join_parts(lagd);
-    lagd->control.report = make_room(sizeof *lagd->control.report);
+    lagd->process.printer.report = allocate_or_stop(sizeof *lagd->process.printer.report);
     choose_no_plane(&lagd->plane);
     return lagd;
 }

@@ -37,7 +37,6 @@ bool give_tap_carrier(const struct plane *plane, bool on) {
 /* The carrier of the device, which is on while data is carried. What the kernel refuses has one line, and is tried again at each tick. */
 void set_carrier(struct device *own, bool on) {
     if (own->carrier == on || own->index == 0) return;
-    if (!on) CALL(own->plane->passing->open_host, own->plane->tap, false);
     if (ASK(own->plane->carrying->give_carrier, true, own->plane, on)) {
         own->carrier = on;
         own->carrier_ticks = 0;
@@ -79,23 +78,23 @@ void settle_tap_mtu(struct device *own) {
     if (mtu == least || ask_tap(own, SIOCSIFMTU, &wanted)) own->set_mtu = least;
 }
 
-void limit_mtu(struct device *own, uint32_t most) {
+void limit_and_settle_tap_mtu(struct device *own, uint32_t most) {
     own->most_mtu = most < LONGEST_PAYLOAD ? most : LONGEST_PAYLOAD;
     settle_tap_mtu(own);
 }
 
-void follow_tap(struct device *own, bool has_now, const char *discipline) {
+void follow_tap_withdraw_open_host_or_end(struct device *own, bool has_now, const char *discipline) {
     own->carrier_told = has_now;
     CALL(own->plane->passing->follow_discipline, own->plane->tap, discipline);
     if (own->carrier && has_now) CALL(own->plane->passing->open_host, own->plane->tap, true);
 }
 
 /* 100 ms passed. Of a device that is not up the kernel tells no carrier, whoever set one. */
-void pass_tap_tick(struct device *own) {
-    own->carrier_ticks = own->carrier && !own->carrier_told && is_tap_up(own) ? own->carrier_ticks + 1 : 0;
-    if (own->carrier_ticks == CARRIER_TICKS)
-        (void)say(&own->process->printer, LOG_WARNING | ABOUT_CARRIER,
-            "carry %s: it has no carrier, though links carry: who took it away may set it on again", own->process->settings->carry);
+void pass_tap_tick(struct printer *printer, unsigned *carrier_ticks, const struct device *own) {
+    *carrier_ticks = own->carrier && !own->carrier_told && is_tap_up(own) ? *carrier_ticks + 1 : 0;
+    if (*carrier_ticks == CARRIER_TICKS)
+        (void)say(printer, LOG_WARNING | ABOUT_CARRIER, "carry %s: it has no carrier, though links carry: who took it away may set it on again",
+            own->process->settings->carry);
 }
 
 /* The MAC address that the device has now: whoever administers it may change it. */
@@ -129,10 +128,9 @@ static bool is_here(int fd, struct ifreq *device) {
     return same && ioctl(fd, TUNGETIFF, device) == 0 && (device->ifr_flags & IFF_TAP) && (device->ifr_flags & IFF_VNET_HDR);
 }
 
-/* The device is the one of the last daemon: it has all that was set of it, and outlives this one no more. */
-static void go_on_with_tap(struct device *own) {
+/* The device is the one of the last daemon: it has all that was set of it. */
+static void recall_tap_mtu(struct device *own) {
     struct ifreq now = {0};
-    if (own->process->inherited->persists) (void)ioctl(own->tap, TUNSETPERSIST, 0);
     own->less_mtu = own->process->inherited->mtu;
     if (ask_tap(own, SIOCGIFMTU, &now)) own->set_mtu = own->most_mtu = (uint32_t)now.ifr_mtu;
 }
@@ -166,7 +164,7 @@ static bool take_stored_tap(struct device *own, const char *name) {
 }
 
 /* Has an open file be the TAP device of this name, which is made where there is none. */
-static bool attach_tap(int fd, const char *name) {
+static bool attach_or_make_tap(int fd, const char *name) {
     struct ifreq device = {.ifr_flags = IFF_TAP | IFF_NO_PI | IFF_VNET_HDR | NO_CARRIER};
     memcpy(device.ifr_name, name, strnlen(name, sizeof device.ifr_name - 1));
     return ioctl(fd, TUNSETIFF, &device) == 0;
@@ -175,32 +173,33 @@ static bool attach_tap(int fd, const char *name) {
 /* Makes the device, or takes one that is there and that nobody has, as that of the last daemon, which may have another name now; answers whether
  * it is that one. A device that was made is gone when the daemon ends, unless the next one goes on. Where it gets the number of the last daemon's,
  * the namespace was made anew, too. */
-static bool take_or_make_tap_or_stop(struct device *own, const char *name) {
-    const struct inherited *inherited = own->process->inherited;
+static bool take_or_make_tap_or_stop(int *tap, int *index, const struct inherited *inherited, const char *name) {
     char room[IF_NAMESIZE];
     const char *used = inherited->persists && if_indextoname((unsigned)inherited->tap, room) ? room : name;
     unsigned before = if_nametoindex(used);
-    own->tap = open("/dev/net/tun", O_RDWR | O_NONBLOCK | O_CLOEXEC);
-    if (own->tap < 0) stop(REFUSED, "no TAP device", strerror(errno));
-    if (!attach_tap(own->tap, used)) stop(REFUSED, name, strerror(errno));
-    own->index = (int)if_nametoindex(used);
-    if (own->index == 0) stop(REFUSED, name, strerror(errno));
-    return before == (unsigned)own->index && own->index == inherited->tap;
+    *tap = open("/dev/net/tun", O_RDWR | O_NONBLOCK | O_CLOEXEC);
+    if (*tap < 0) stop(REFUSED, "no TAP device", strerror(errno));
+    if (!attach_or_make_tap(*tap, used)) stop(REFUSED, name, strerror(errno));
+    *index = (int)if_nametoindex(used);
+    if (*index == 0) stop(REFUSED, name, strerror(errno));
+    return before == (unsigned)*index && *index == inherited->tap;
 }
 
 /* Opens the device. Its carrier stays where the data of the last daemon goes on, and so do frames that wait there, unless they are old. */
-int open_tap_or_stop(struct device *own, const char *name, const uint8_t *mac) {
+int open_tap_and_drop_old_frames_or_stop(struct device *own, const char *name, const uint8_t *mac) {
     own->asker = socket(AF_UNIX, SOCK_DGRAM | SOCK_CLOEXEC, 0);
     if (own->asker < 0) stop(REFUSED, "no TAP device", strerror(errno));
     const struct inherited *inherited = own->process->inherited;
     uint8_t scrap[ETH_HLEN];
-    bool was_stored = take_stored_tap(own, name), goes_on = was_stored ? own->index == inherited->tap : take_or_make_tap_or_stop(own, name);
+    bool was_stored = take_stored_tap(own, name);
+    bool goes_on = was_stored ? own->index == inherited->tap : take_or_make_tap_or_stop(&own->tap, &own->index, inherited, name);
     own->carrier = true; /* which older kernels set of a device that is made */
     if (!was_stored || !goes_on || !own->process->resuming) set_carrier(own, false);
     bool is_old = was_stored && !was_away_briefly(inherited);
     for (unsigned i = 0; is_old && i < 2 * HOST_QUEUE && read(own->tap, scrap, sizeof scrap) > 0; i++) continue;
+    if (goes_on && inherited->persists) (void)ioctl(own->tap, TUNSETPERSIST, 0); /* it outlives this daemon no more */
     if (goes_on)
-        go_on_with_tap(own);
+        recall_tap_mtu(own);
     else
         set_up_tap_or_stop(own, mac);
     set_offload_or_stop(own);
@@ -218,14 +217,14 @@ void use_team_device_or_stop(struct device *own, int index) {
 }
 
 /* A device that the last daemon had outlive itself goes. */
-void leave_tap(struct plane *plane UNUSED, int index, bool owned) {
+void drop_tap_persistence(struct plane *plane UNUSED, int index, bool owned) {
     char room[IF_NAMESIZE];
     CLOSED_FILE int fd = owned && if_indextoname((unsigned)index, room) ? open("/dev/net/tun", O_RDWR | O_CLOEXEC) : -1;
-    if (fd >= 0 && attach_tap(fd, room)) (void)ioctl(fd, TUNSETPERSIST, 0);
+    if (fd >= 0 && attach_or_make_tap(fd, room)) (void)ioctl(fd, TUNSETPERSIST, 0);
 }
 
 /* The next daemon gets the device as it is, by its name where no manager of services keeps it; or it is to go with this one. */
-void keep_tap(struct plane *plane, bool keeps) {
+void set_tap_persistence(struct plane *plane, bool keeps) {
     struct device *own = plane->device;
     struct ifreq device = {0};
     if (plane->owns_device == keeps || ioctl(own->tap, TUNGETIFF, &device) < 0 || (keeps && (has_store() || (device.ifr_flags & IFF_PERSIST))))

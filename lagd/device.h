@@ -21,19 +21,19 @@ struct device {
 };
 
 /* device.c */
-void follow_tap(struct device *own, bool has_carrier, const char *discipline);
-int open_tap_or_stop(struct device *own, const char *name, const uint8_t *mac);
+void follow_tap_withdraw_open_host_or_end(struct device *own, bool has_carrier, const char *discipline);
+int open_tap_and_drop_old_frames_or_stop(struct device *own, const char *name, const uint8_t *mac);
 void use_team_device_or_stop(struct device *own, int index);
 bool give_tap_carrier(const struct plane *plane, bool on);
 void settle_tap_mtu(struct device *own);
-void set_carrier(struct device *own, bool on); /* off: with fast, no frame of the host is taken, either */
+void set_carrier(struct device *own, bool on);
 bool has_carrier(const struct device *own);
 void set_speed(struct device *own, uint32_t megabits);
-void limit_mtu(struct device *own, uint32_t most);
-void pass_tap_tick(struct device *own);
+void limit_and_settle_tap_mtu(struct device *own, uint32_t most);
+void pass_tap_tick(struct printer *printer, unsigned *carrier_ticks, const struct device *own);
 bool read_tap_mac(const struct device *own, uint8_t *mac);
 bool is_tap_up(const struct device *own);
-void leave_tap(struct plane *plane, int index, bool owned);
-void keep_tap(struct plane *plane, bool keeps);
+void drop_tap_persistence(struct plane *plane, int index, bool owned);
+void set_tap_persistence(struct plane *plane, bool keeps);
 
 #endif

@@ -13,7 +13,8 @@ enum section { NO_SECTION, WRONG_SECTION, BUNDLE_SECTION, PORT_SECTION };
 
 /* A file that is being read. */
 struct reading {
-    struct process *process;
+    struct printer *printer;
+    struct words *words;
     FILE *file;
     const char *path;
     unsigned line; /* from 1 */
@@ -26,7 +27,7 @@ struct reading {
 /* In the line that was read last. */
 static void count_and_tell_fault(struct reading *reading, const char *expected, const char *found) {
     reading->faults++;
-    complain(&reading->process->printer, "%s:%u: expected %s: %s", reading->path, reading->line, expected, found);
+    complain(reading->printer, "%s:%u: expected %s: %s", reading->path, reading->line, expected, found);
 }
 
 /* Takes the head of a section: `line` begins with a bracket. Answers what was expected, or NULL. */
@@ -51,7 +52,7 @@ static const char *fault_of(const char *line, size_t length) {
 }
 
 /* Hands the library the next line; an empty one in place of the head of a section, and of one that is wrong. */
-static char *take_line_or_tell_fault(char *into, int room, void *given) {
+static char *take_line_add_port_or_tell_fault(char *into, int room, void *given) {
     struct reading *reading = given;
     char *line = NULL;
     size_t size = 0;
@@ -70,14 +71,13 @@ static char *take_line_or_tell_fault(char *into, int room, void *given) {
 }
 
 /* Takes a key and its value, of the section that came last. */
-static int parse_pair(void *given, const char *section UNUSED, const char *name, const char *value) {
+static int parse_pair_or_tell_fault(void *given, const char *section UNUSED, const char *name, const char *value) {
     struct reading *reading = given;
-    struct words *words = &reading->process->words;
     struct settings *wanted = reading->settings;
     const char *expected = NULL;
     switch (reading->section) {
-    case BUNDLE_SECTION: expected = set_bundle(words, wanted, name, value, reading->line); break;
-    case PORT_SECTION: expected = set_port(words, &wanted->ports[wanted->port_count - 1], name, value); break;
+    case BUNDLE_SECTION: expected = set_bundle(reading->words, wanted, name, value, reading->line); break;
+    case PORT_SECTION: expected = set_port(reading->words, &wanted->ports[wanted->port_count - 1], name, value); break;
     case WRONG_SECTION: break;
     default: expected = "[Bundle] or [Port INTERFACE] before keys"; break;
     }
@@ -119,14 +119,14 @@ bool check_whole_bundle(struct printer *printer, const char *path, const struct 
 }
 
 /* Reads a file; answers whether it is right. There is a line for each fault. */
-bool read_bundle_file(struct process *process, const char *path, struct settings *wanted) {
-    CLOSED_STREAM FILE *file = open_file(&process->printer, path);
-    struct reading reading = {.process = process, .file = file, .path = path, .settings = wanted};
+bool read_bundle_file(struct printer *printer, struct words *words, const char *path, struct settings *wanted) {
+    CLOSED_STREAM FILE *file = open_file(printer, path);
+    struct reading reading = {.printer = printer, .words = words, .file = file, .path = path, .settings = wanted};
     *wanted = usual_settings();
     name_bundle(path, wanted->name);
     if (!file) return false;
     ini_allow_multiline = false;
     ini_allow_inline_comments = false;
-    (void)ini_parse_stream(take_line_or_tell_fault, &reading, parse_pair, &reading);
-    return reading.faults == 0 && check_whole_bundle(&process->printer, path, wanted);
+    (void)ini_parse_stream(take_line_add_port_or_tell_fault, &reading, parse_pair_or_tell_fault, &reading);
+    return reading.faults == 0 && check_whole_bundle(printer, path, wanted);
 }

@@ -49,7 +49,7 @@ int open_or_make_folder(const char *folder, const char **fault) {
 }
 
 /* Opens the folder, without which there is no daemon. */
-int open_status_folder_or_stop(const char *folder) {
+int open_or_make_status_folder_or_stop(const char *folder) {
     const char *fault;
     int opened = open_or_make_folder(folder, &fault);
     if (opened < 0 && fault) stop(REFUSED, fault, folder);

@@ -32,10 +32,10 @@ void forget_partner(const struct settings *settings, struct link *link) {
 }
 
 /* An LACPDU names another system than the partner. */
-static void note_stranger(struct link *link, const struct system_id *system, const uint8_t *source) {
-    link->strangers.seen = true;
-    link->strangers.system = *system;
-    memcpy(link->strangers.source, source, sizeof link->strangers.source);
+static void note_stranger(struct strangers *own, const struct system_id *system, const uint8_t *source) {
+    own->seen = true;
+    own->system = *system;
+    memcpy(own->source, source, sizeof own->source);
 }
 
 /* An LACPDU of this system was taken. */
@@ -44,7 +44,7 @@ void note_lacpdu_and_pin_partner(const struct settings *settings, struct link *l
     link->lacpdu_at = boottime();
     if (link->heard && !is_same_system(&link->actor, actor)) {
         link->counts[PARTNER_CHANGES]++;
-        note_stranger(link, &link->actor, link->source);
+        note_stranger(&link->strangers, &link->actor, link->source);
     }
     link->heard = true;
     link->actor = *actor;
@@ -99,7 +99,7 @@ void accept_frame(struct protocol *protocol, struct link *link, const struct arr
     bool is_lacpdu = actor_of(arrival, &actor);
     if (is_lacpdu && link->up && link->pinned && !is_same_system(&actor, &link->partner)) {
         link->counts[FOREIGN_RECEIVED]++;
-        note_stranger(link, &actor, arrival->frame + 6);
+        note_stranger(&link->strangers, &actor, arrival->frame + 6);
         return;
     }
     bool is_response = link->up && read_response(protocol->core, arrival, &response);
@@ -114,9 +114,10 @@ void accept_frame(struct protocol *protocol, struct link *link, const struct arr
 }
 
 /* What the kernel tells beside a frame; zeros where it does not. */
-struct tpacket_auxdata aux_of(struct msghdr *message) {
+struct tpacket_auxdata aux_of(const struct msghdr *message) {
+    struct msghdr copy = *message; /* CMSG_NXTHDR takes none that is const */
     struct tpacket_auxdata aux = {0};
-    for (struct cmsghdr *head = CMSG_FIRSTHDR(message); head; head = CMSG_NXTHDR(message, head)) {
+    for (struct cmsghdr *head = CMSG_FIRSTHDR(&copy); head; head = CMSG_NXTHDR(&copy, head)) {
         size_t room = message->msg_controllen - (size_t)((const uint8_t *)head - (const uint8_t *)message->msg_control);
         if (head->cmsg_len > room) break;
         if (head->cmsg_level == SOL_PACKET && head->cmsg_type == PACKET_AUXDATA && head->cmsg_len >= CMSG_LEN(sizeof aux))

@@ -135,23 +135,23 @@ bool write_speed(int socket, int index, uint32_t megabits) {
     return ask_by(socket, index, &told);
 }
 
-/* The link of a port comes up, or is up: with key-by-speed it has the key of the speed that it had as it came. */
-void note_speed_and_set_key(struct protocol *protocol, struct link *link) {
-    bool by_speed = protocol->settings->key_by_speed;
+/* The link of a port comes up, or is up: with key-by-speed it has the key of the speed that it had as it came. Answers whether that is new. */
+bool note_speed_and_set_key(struct core *core, struct keys *own, const struct ports *ports, struct link *link) {
+    bool by_speed = core->settings->key_by_speed;
     struct niw_change change = {.priority = link->settings.priority, .aggregatable = link->settings.aggregatable};
-    if (by_speed ? link->up : protocol->settings->select != SELECT_BANDWIDTH) return;
+    if (by_speed ? link->up : core->settings->select != SELECT_BANDWIDTH) return false;
     struct speed now = read_speed(link->socket, link->index);
-    if (link->has_speed && is_same_speed(&now, &link->speed)) return;
-    link->has_speed = protocol->plane->changed = true;
+    if (link->has_speed && is_same_speed(&now, &link->speed)) return false;
+    link->has_speed = true;
     link->speed = now;
-    if (!by_speed) return;
-    change.key = choose_key(&protocol->keys, protocol->ports, protocol->settings, link);
-    if (is_done(protocol->core, niw_configure(&protocol->core->system, link->settings.number, &change).status, "niw_configure"))
-        link->settings.key = change.key;
+    if (!by_speed) return true;
+    change.key = choose_key(own, ports, core->settings, link);
+    if (is_done(core, niw_configure(&core->system, link->settings.number, &change).status, "niw_configure")) link->settings.key = change.key;
+    return true;
 }
 
 /* Whether a link that is up has come back at another speed, which with key-by-speed has another key. */
-bool has_other_speed(const struct settings *settings, const struct link *link) {
+bool read_whether_speed_differs(const struct settings *settings, const struct link *link) {
     if (!settings->key_by_speed || !link->up || !link->has_speed) return false;
     struct speed now = read_speed(link->socket, link->index);
     return !is_same_speed(&now, &link->speed);

@@ -226,14 +226,15 @@ struct store {
  *   protocol           all that LACP does: LACPDUs that are due go, interfaces are taken up and released, what the kernel tells is followed, the
  *                      plane learns of it, and so do the manager of services, watchers and the hook
  *
- * A name says which of it a function does. By one with `_or_end` the daemon may end in order, by one with `_or_stop` at once. What is only shown is asked
- * of the library with const, too. */
+ * A name says which of it a function does. By one with `_or_end` the daemon may end in order, by one with `_or_stop` at once, too. What is only shown
+ * is asked of the library with const, too. */
 
 /* What prints lines. */
 struct printer {
     const struct process *process; /* whose lines */
     struct status *watchers; /* who does not keep up is let go */
     int output, journal; /* what they are written to, once there were some, or -1 */
+    struct report *report; /* what is written for whoever asks or watches */
 };
 
 /* The system of the library. */
@@ -345,7 +346,7 @@ static inline struct system_id partner_of(const struct niw_view *view) {
 }
 
 /* Room of zeros. There is no daemon without it. */
-static inline void *make_room(size_t octets) {
+static inline void *allocate_or_stop(size_t octets) {
     void *made = calloc(1, octets);
     if (made) return made;
     (void)fputs("lagd: no memory\n", stderr);
@@ -447,7 +448,7 @@ struct arrival {
     bool tagged;          /* whether the kernel took a VLAN tag from it */
 };
 struct tpacket_auxdata;
-struct tpacket_auxdata aux_of(struct msghdr *message);
+struct tpacket_auxdata aux_of(const struct msghdr *message);
 void accept_frame(struct protocol *protocol, struct link *link, const struct arrival *arrival);
 void receive_frames(struct protocol *protocol, uint16_t port);
 void accept_response(struct protocol *protocol, struct link *link, const struct arrival *arrival);
@@ -498,8 +499,8 @@ uint16_t choose_key(struct keys *own, const struct ports *ports, const struct se
 bool call_driver(int index, void *value);
 struct speed read_speed(int socket, int index);
 bool write_speed(int socket, int index, uint32_t megabits);
-void note_speed_and_set_key(struct protocol *protocol, struct link *link);
-bool has_other_speed(const struct settings *settings, const struct link *link);
+bool note_speed_and_set_key(struct core *core, struct keys *own, const struct ports *ports, struct link *link);
+bool read_whether_speed_differs(const struct settings *settings, const struct link *link);
 const char *speed_text(const struct speed *speed, char room[static 40]);
 
 /* system.c */
@@ -519,7 +520,7 @@ uint64_t milliseconds(void);
 void note_peer_to_tell(struct link *link);
 void leave_aggregators_and_tell_peers(struct protocol *protocol);
 bool end_is_told(const struct ports *ports);
-bool end_bundle_and_system(struct protocol *protocol);
+bool end_bundle_and_system(struct core *core, struct bundle *own, const struct ports *ports, const struct control *control);
 
 /* membership.c */
 #define ORDER_ROOM 384
@@ -530,7 +531,7 @@ void leave_left_ports(struct protocol *protocol);
 void begin_link(const struct settings *settings, struct link *link, uint16_t port);
 void join_port_and_ask_now(struct protocol *protocol, struct link *link, const struct port_settings *settings);
 void leave_port(struct protocol *protocol, struct link *link);
-bool begin_hold_or_release(struct protocol *protocol, struct link *link);
+bool begin_emptying_or_apply_hold(struct protocol *protocol, struct link *link);
 void stay_port(struct protocol *protocol, struct link *link);
 void pass_leaving_tick(struct protocol *protocol);
 struct interface;
@@ -538,13 +539,13 @@ bool may_put_in(const struct protocol *protocol, const struct link *link);
 bool note_whether_outside(const struct protocol *protocol, struct link *link, int master);
 void hold_once_to_tell_peer(struct protocol *protocol, const struct link *link);
 void join_followed_port(struct protocol *protocol, const struct interface *interface);
-bool take_and_tell_new_name(struct protocol *protocol, struct link *link, const struct interface *interface);
-void answer_order(struct protocol *protocol, char *order, char answer[static ORDER_ROOM]);
+bool take_and_tell_new_name(struct protocol *protocol, const struct link *link, const struct interface *interface);
+void obey_order_and_answer(struct protocol *protocol, char *order, char answer[static ORDER_ROOM]);
 
 /* halt.c */
 void halt_or_go_on_with_device(struct protocol *protocol, bool up);
 void note_halt_at_start(struct halt *own, bool down, bool resuming);
-void halt_or_end_halt(struct protocol *protocol);
+void halt_or_begin_lacp_at_start(struct protocol *protocol);
 void pass_halt_tick(struct protocol *protocol);
 
 /* ports.c */
@@ -566,13 +567,13 @@ struct worth { /* of an aggregator, by the ports that carry there */
 };
 struct worth worth_of(const struct protocol *protocol, uint16_t aggregator);
 uint64_t patience_with(const struct protocol *protocol, uint16_t active, uint16_t other);
-void follow_peer(struct protocol *protocol, uint16_t aggregator);
+void follow_peer(struct core *core, struct choice *own, const struct protocol *protocol, uint16_t aggregator);
 void choose_aggregator(struct protocol *protocol, struct bundle *now);
 bool is_as_good_as_any(struct core *core, const struct protocol *protocol, uint16_t aggregator);
 
 /* bundle.c */
 void choose_and_tell_bundle(struct protocol *protocol);
-void enter_down_state_and_tell_all(struct core *core, struct bundle *own, const struct control *control);
+void enter_down_state_run_hook_and_tell_all(struct core *core, struct bundle *own, const struct control *control);
 
 /* reload.c */
 bool change_port(struct protocol *protocol, struct link *link, const struct settings *wanted);
@@ -585,7 +586,7 @@ void forget_interface(int folder, const struct link *link);
 
 /* folder.c */
 int open_or_make_folder(const char *folder, const char **fault);
-int open_status_folder_or_stop(const char *folder);
+int open_or_make_status_folder_or_stop(const char *folder);
 FILE *open_in(int folder, const char *name, int flags, const char *mode);
 const char *fault_of_owner(int opened);
 uint64_t namespace_cookie(void);
@@ -606,10 +607,10 @@ void receive_stored_or_stop(struct process *process);
 bool has_store(void);
 void put_stored(const struct store *own, const char *kind, int number, int fd);
 int claim_stored(struct store *own, const char *kind, int number);
-void return_stored(struct store *own, const char *kind, int number, int fd);
-void drop_stored(struct store *own, const char *kind, int number);
+void return_stored_or_close(struct store *own, const char *kind, int number, int fd);
+void drop_stored_without_closing(struct store *own, const char *kind, int number);
 void close_stored(struct store *own, const char *kind, int number, int fd);
-void drop_unclaimed(struct store *own);
+void detach_and_drop_unclaimed(struct store *own);
 bool is_bound(int fd, int index);
 int packet_socket(struct store *store, const struct inherited *inherited, const char *kind, int of, int index, int type);
 int attach_stored(struct store *own, const char *kind, int program, int index, bool egress);
@@ -651,12 +652,12 @@ uint32_t first_marker_left(const struct inherited *inherited);
 bool was_away_briefly(const struct inherited *inherited);
 bool lacpdu_holds(uint64_t now, uint64_t then, bool short_timeout);
 bool has_carried_links(const struct inherited *inherited);
-unsigned resume(struct protocol *protocol);
+unsigned resume(struct core *core, const struct protocol *protocol, struct ports *ports);
 void bring_up_others_and_send(struct protocol *protocol);
 void resume_data(struct protocol *protocol, unsigned count);
 
 /* carry.c */
-void settle_carry(struct plane *plane);
+void settle_carry_or_lose_member(struct plane *plane);
 
 /* tap/host.c */
 void end_carry(struct plane *plane);
@@ -664,7 +665,7 @@ void remove_all_members(struct plane *plane, const struct ports *ports);
 
 /* tap/guard.c, tap/members.c */
 void fit_queue(const struct plane *plane, const struct link *link);
-bool reopen_member(struct plane *plane, struct link *link);
+bool read_discipline_and_renew_or_end(struct plane *plane, struct link *link);
 void set_mac_and_move_kept(struct plane *plane, struct link *link, const uint8_t *mac);
 
 #endif

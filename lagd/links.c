@@ -13,17 +13,17 @@
 #define TROUBLE_TICKS 50
 
 /* A packet socket of an interface, for the frames of the slow protocols alone; or -errno. */
-static int open_slow_socket(struct process *process, int index) {
+static int open_slow_socket(struct store *store, const struct inherited *inherited, int index) {
     struct sockaddr_ll address = {.sll_family = AF_PACKET, .sll_protocol = htons(ETH_P_SLOW), .sll_ifindex = index};
     struct packet_mreq member = {index, PACKET_MR_MULTICAST, 6, {0x01, 0x80, 0xc2, 0x00, 0x00, 0x02}};
-    int opened = packet_socket(&process->store, process->inherited, "lacp", index, index, SOCK_RAW);
+    int opened = packet_socket(store, inherited, "lacp", index, index, SOCK_RAW);
     if (opened < 0) return opened;
     (void)setsockopt(opened, SOL_SOCKET, SO_PRIORITY, &(int){TC_PRIO_CONTROL}, sizeof(int)); /* before data */
     (void)setsockopt(opened, SOL_PACKET, PACKET_IGNORE_OUTGOING, &(int){1}, sizeof(int));
     if (setsockopt(opened, SOL_PACKET, PACKET_AUXDATA, &(int){1}, sizeof(int)) == 0 && bind(opened, (struct sockaddr *)&address, sizeof address) == 0
         && setsockopt(opened, SOL_PACKET, PACKET_ADD_MEMBERSHIP, &member, sizeof member) == 0)
         return opened;
-    close_stored(&process->store, "lacp", index, opened);
+    close_stored(store, "lacp", index, opened);
     return last_fault();
 }
 
@@ -93,7 +93,7 @@ static int open_files_and_add_member(struct process *process, struct plane *plan
     link->index = index;
     link->lock = lock_interface(&process->store, process->inherited, index);
     if (link->lock < 0) return link->lock;
-    link->socket = open_slow_socket(process, index);
+    link->socket = open_slow_socket(&process->store, process->inherited, index);
     if (link->socket < 0) return link->socket;
     if (!await_input(process->epoll_file, link->socket, link->settings.number)) return last_fault();
     return ASK(plane->carrying->add, 0, plane, link);

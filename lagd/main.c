@@ -51,7 +51,7 @@ static bool is_ignored(int signal) {
 
 /* Opens the signals that end the daemon, SIGUSR1 too, SIGHUP, and SIGUSR2. A log that may not grow (SIGXFSZ), a reader that is gone (SIGPIPE)
  * and a hook that ends (SIGCHLD) do not disturb it. */
-static int block_and_open_signals_or_stop(void) {
+static int block_ignore_and_open_signals_or_stop(void) {
     /* These would end the program at once, beside those of a fault in it. */
     static const int ends[] = {SIGHUP, SIGINT, SIGQUIT, SIGALRM, SIGVTALRM, SIGPROF, SIGIO, SIGPWR, SIGXCPU, SIGSTKFLT};
     sigset_t taken;
@@ -153,7 +153,7 @@ static void serve_all_data(struct tap_plane *tap, const struct epoll_event *even
     bool host = is_cutting(tap->core, &tap->host) || is_ready(events, count, HOST);
     for (int i = 0; i < count; i++)
         if (events[i].data.u32 >= MEMBERS) serve_settle_and_send(tap, events[i].data.u32);
-    settle_carry(tap->plane);
+    settle_carry_or_lose_member(tap->plane);
     if (host) serve_settle_and_send(tap, HOST);
 }
 
@@ -174,7 +174,7 @@ static bool serve_signal(struct lagd *lagd, int signals_fd, const char *file) {
     struct signalfd_siginfo signal;
     if (read(signals_fd, &signal, sizeof signal) != sizeof signal) return true;
     switch (signal.ssi_signo) {
-    case SIGUSR2: ask_moves(&lagd->carry); return false;
+    case SIGUSR2: mark_busy_to_move(&lagd->carry); return false;
     case SIGUSR1: keep_device_and_hand_over(lagd); return !lagd->process.has_left;
     case SIGHUP:
         if (file) reload(&lagd->protocol, file);
@@ -194,16 +194,16 @@ static void serve(struct lagd *lagd, const struct epoll_event *events, int count
     if (is_ready(events, count, STATUS)) accept_callers(&lagd->process.status, lagd->process.epoll_file);
     read_and_follow_carriers(&lagd->protocol, tick);
     if (tick) make_up_ticks_send_and_tell(lagd, clock_fd);
-    settle_carry(&lagd->plane);
+    settle_carry_or_lose_member(&lagd->plane);
 }
 
-/* Waits for events. While many frames come, and none is left, it lets some gather before they are taken: each wake-up costs whoever sends
- * them, too. */
-static int await_events_and_reset_turn(struct tap_plane *tap, struct epoll_event *events) {
-    if (tap->carry->taken >= MANY && !tap->carry->more_waits) (void)nanosleep(&(struct timespec){0, GATHERS}, NULL);
-    tap->carry->taken = 0;
-    tap->carry->more_waits = false;
-    return epoll_wait(tap->process->epoll_file, events, MOST_EVENTS, is_cutting(tap->core, &tap->host) ? 0 : -1);
+/* Waits for events, or while the host's packets are cut only takes what is there. While many frames come, and none is left, it lets some gather
+ * before they are taken: each wake-up costs whoever sends them, too. */
+static int await_events_and_reset_turn(struct carry *carry, bool cuts, struct epoll_event *events) {
+    if (carry->taken >= MANY && !carry->more_waits) (void)nanosleep(&(struct timespec){0, GATHERS}, NULL);
+    carry->taken = 0;
+    carry->more_waits = false;
+    return epoll_wait(carry->process->epoll_file, events, MOST_EVENTS, cuts ? 0 : -1);
 }
 
 /* Waits, and serves what comes. The first signal that ends it, or a refusal of the library, makes it tell the peers; it ends when they
@@ -212,7 +212,7 @@ static void run(struct lagd *lagd, int signals_fd, int clock_fd, const char *fil
     struct epoll_event events[MOST_EVENTS];
     bool ends = false;
     for (unsigned end_ticks = 0; !ends || (end_ticks < END_TICKS && !end_is_told(&lagd->ports));) {
-        int count = await_events_and_reset_turn(&lagd->tap, events);
+        int count = await_events_and_reset_turn(&lagd->carry, is_cutting(&lagd->core, &lagd->tap.host), events);
         bool ends_now = count < 0 && errno != EINTR;
         serve(lagd, events, count, clock_fd);
         if (lagd->core.broken) end_carry(&lagd->plane);
@@ -238,11 +238,11 @@ static void open_closed_standard_files(void) {
 static int run_daemon(struct lagd *lagd, const struct options *options) {
     lagd->settings = options->settings;
     (void)prctl(PR_SET_TIMERSLACK, TIMER_SLACK);
-    int signals = block_and_open_signals_or_stop();
+    int signals = block_ignore_and_open_signals_or_stop();
     lagd->process.epoll_file = epoll_create1(EPOLL_CLOEXEC);
     need(lagd->process.epoll_file >= 0, "epoll");
     if (lagd->settings.system_auto) read_auto_system_mac_or_stop(&lagd->settings);
-    lagd->process.folder = open_status_folder_or_stop(options->folder);
+    lagd->process.folder = open_or_make_status_folder_or_stop(options->folder);
     receive_stored_or_stop(&lagd->process);
     choose_plane(&lagd->plane, &lagd->settings);
     recall_state_and_leave_other_device(&lagd->state);
@@ -256,31 +256,31 @@ static int run_daemon(struct lagd *lagd, const struct options *options) {
     int clock = open_clock_or_stop();
     need(await_input(lagd->process.epoll_file, signals, SIGNALS) && await_input(lagd->process.epoll_file, clock, CLOCK), "epoll");
     drop_privileges(&lagd->process.printer, lagd->plane.carrying->administers);
-    unsigned resumed = resume(&lagd->protocol);
+    unsigned resumed = resume(&lagd->core, &lagd->protocol, &lagd->ports);
     lagd->process.has_started = true;
     resume_data(&lagd->protocol, resumed);
     bring_up_others_and_send(&lagd->protocol);
-    halt_or_end_halt(&lagd->protocol);
+    halt_or_begin_lacp_at_start(&lagd->protocol);
     leave_left_ports(&lagd->protocol);
     CALL(lagd->plane.carrying->end_resuming, &lagd->plane);
-    drop_unclaimed(&lagd->process.store);
+    detach_and_drop_unclaimed(&lagd->process.store);
     (void)save_state(&lagd->state, false);
     read_and_tell_ports_and_bundle(&lagd->protocol);
-    settle_carry(&lagd->plane);
+    settle_carry_or_lose_member(&lagd->plane);
     notify_bundle(&lagd->protocol.bundle, READY);
     run(lagd, signals, clock, options->file);
     if (lagd->process.has_left) return DONE;
     end_carry(&lagd->plane);
-    return end_bundle_and_system(&lagd->protocol) ? DONE : REFUSED;
+    return end_bundle_and_system(&lagd->core, &lagd->protocol.bundle, &lagd->ports, &lagd->control) ? DONE : REFUSED;
 }
 
 int main(int argc, char **argv) {
     static struct lagd *lagd; /* until the program ends */
     struct options options;
-    lagd = make_lagd();
+    lagd = make_lagd_or_stop();
     open_closed_standard_files();
-    read_options_or_stop(&lagd->process, argc, argv, &options);
+    read_options_and_file_or_stop(&lagd->process, argc, argv, &options);
     if (options.action == RUN_BUNDLE) return run_daemon(lagd, &options);
-    if (options.action == CHECK) return choose_plane_and_check(&lagd->process.printer, &lagd->plane, &options);
-    return ask_daemons(&lagd->process.printer, lagd->control.report, &options);
+    if (options.action == CHECK) return choose_plane_unshare_and_check(&lagd->process.printer, &lagd->plane, &options);
+    return ask_daemons_or_stop(&lagd->process.printer, lagd->process.printer.report, &options);
 }

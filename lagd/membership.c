@@ -106,14 +106,14 @@ void begin_link(const struct settings *settings, struct link *link, uint16_t por
 }
 
 /* Gives the library what the settings have of a port; answers whether it took that. */
-static bool set_key_mode_and_hold(struct protocol *protocol, struct link *link) {
-    struct niw_change change = {.key = choose_key(&protocol->keys, protocol->ports, protocol->settings, link),
+static bool set_key_mode_and_hold(struct core *core, struct keys *keys, const struct ports *ports, struct link *link, bool down) {
+    struct niw_change change = {.key = choose_key(keys, ports, core->settings, link),
         .priority = link->settings.priority, .aggregatable = link->settings.aggregatable};
     uint16_t port = link->settings.number;
     link->settings.key = change.key;
-    return is_done(protocol->core, niw_configure(&protocol->core->system, port, &change).status, "niw_configure")
-        && is_done(protocol->core, niw_set_mode(&protocol->core->system, port, link->settings.active, link->settings.short_timeout), "niw_set_mode")
-        && apply_hold(protocol->core, link, protocol->halt.down);
+    return is_done(core, niw_configure(&core->system, port, &change).status, "niw_configure")
+        && is_done(core, niw_set_mode(&core->system, port, link->settings.active, link->settings.short_timeout), "niw_set_mode")
+        && apply_hold(core, link, down);
 }
 
 void join_port_and_ask_now(struct protocol *protocol, struct link *link, const struct port_settings *settings) {
@@ -123,7 +123,7 @@ void join_port_and_ask_now(struct protocol *protocol, struct link *link, const s
     begin_link(protocol->settings, link, port);
     link->puts_in = true;
     CALL(protocol->plane->carrying->forget, protocol->plane, link);
-    if (!set_key_mode_and_hold(protocol, link)) return;
+    if (!set_key_mode_and_hold(protocol->core, &protocol->keys, protocol->ports, link, protocol->halt.down)) return;
     (void)say(protocol->core->printer, LOG_NOTICE | ABOUT_PORT, "port %u %s: it joins the bundle", port, link->name);
     ask_now(&protocol->changes, protocol->ports);
 }
@@ -142,7 +142,7 @@ static void release_port_and_number(struct protocol *protocol, struct link *link
 
 /* A port is to be out of use, or to be used again; answers whether that is done. First its conversations move to others, behind markers, so that
  * nothing of ours is on its way there once the peer takes nothing more. */
-bool begin_hold_or_release(struct protocol *protocol, struct link *link) {
+bool begin_emptying_or_apply_hold(struct protocol *protocol, struct link *link) {
     bool out_of_use = link->held || link->leaving;
     link->leaves_since = milliseconds();
     link->left_at = 0;
@@ -171,7 +171,7 @@ void leave_port(struct protocol *protocol, struct link *link) {
         return;
     }
     (void)say(protocol->core->printer, LOG_NOTICE | ABOUT_PORT, "port %u %s: it leaves the bundle", link->settings.number, link->name);
-    if (begin_hold_or_release(protocol, link)) send_due_and_read_views(protocol);
+    if (begin_emptying_or_apply_hold(protocol, link)) send_due_and_read_views(protocol);
 }
 
 void stay_port(struct protocol *protocol, struct link *link) {
@@ -179,7 +179,7 @@ void stay_port(struct protocol *protocol, struct link *link) {
     link->leaving = false;
     link->changed = true;
     (void)say(protocol->core->printer, LOG_NOTICE | ABOUT_PORT, "port %u %s: it stays in the bundle", link->settings.number, link->name);
-    if (begin_hold_or_release(protocol, link)) send_due_and_read_views(protocol);
+    if (begin_emptying_or_apply_hold(protocol, link)) send_due_and_read_views(protocol);
 }
 
 /* Whether nothing of ours is on a link that is held, and its partner sends nothing more there, as far as it tells. */
@@ -261,7 +261,7 @@ void join_followed_port(struct protocol *protocol, const struct interface *inter
 }
 
 /* The interface of a port that the device alone has was given another name: it is the same port. Answers whether it is. */
-bool take_and_tell_new_name(struct protocol *protocol, struct link *link, const struct interface *interface) {
+bool take_and_tell_new_name(struct protocol *protocol, const struct link *link, const struct interface *interface) {
     char *name = protocol->settings->ports[link->settings.number - 1].name;
     if (!link->followed || link->leaving || interface->master != protocol->device->index || link_named(protocol->ports, interface->name))
         return false;
@@ -319,7 +319,7 @@ static bool hold_by_word(struct protocol *protocol, struct link *link, bool hold
         (void)say(protocol->core->printer, LOG_NOTICE | ABOUT_PORT, "port %u %s: it is %s", link->settings.number, link->name,
             hold ? "held" : "used again");
         link->held = hold;
-        if (!begin_hold_or_release(protocol, link)) return true;
+        if (!begin_emptying_or_apply_hold(protocol, link)) return true;
         protocol->settings->ports[link->settings.number - 1].hold = hold;
         send_due_and_read_views(protocol);
     }
@@ -328,7 +328,7 @@ static bool hold_by_word(struct protocol *protocol, struct link *link, bool hold
 
 /* Does what somebody asks for, `add`, `remove`, `hold` or `release` of an interface, and answers: `done`, `wait` where it is to be asked again, as
  * `removed` is, or a refusal, and a line end. */
-void answer_order(struct protocol *protocol, char *order, char answer[static ORDER_ROOM]) {
+void obey_order_and_answer(struct protocol *protocol, char *order, char answer[static ORDER_ROOM]) {
     char *name = strchr(order, ' ') + 1, room[ORDER_ROOM];
     bool removes = strncmp(order, "remove ", 7) == 0, done = true;
     struct link *link = link_named(protocol->ports, name);

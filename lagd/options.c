@@ -189,7 +189,7 @@ static void read_letters_or_stop(struct words *words, struct options *options, i
 }
 
 /* Reads the command line, and the file that it names. */
-void read_options_or_stop(struct process *process, int argc, char **argv, struct options *options) {
+void read_options_and_file_or_stop(struct process *process, int argc, char **argv, struct options *options) {
     static const unsigned no_lines[MOST_BUNDLE_KEYS];
     *options = (struct options){.folder = "/run/lagd", .settings = usual_settings()};
     read_letters_or_stop(&process->words, options, argc, argv);
@@ -198,6 +198,6 @@ void read_options_or_stop(struct process *process, int argc, char **argv, struct
         stop(WRONG_WORD, "usage", "lagd --status --json, or lagd --watch --json");
     if ((options->action != RUN_BUNDLE || options->file) && (optind < argc || has_keys))
         stop(WRONG_WORD, "usage", "a file has all of its bundle, and a question has none of it; lagd --help tells more");
-    if (options->file && !read_bundle_file(process, options->file, &options->settings)) exit(WRONG_WORD);
+    if (options->file && !read_bundle_file(&process->printer, &process->words, options->file, &options->settings)) exit(WRONG_WORD);
     if (options->action == RUN_BUNDLE && !options->file) read_operands_or_stop(&process->words, options, argc - optind, argv + optind);
 }

@@ -37,7 +37,7 @@ void release_former_members(struct plane *plane) {
         bool stays = false;
         EACH_LINK(link, plane->carry->ports) stays = stays || (link->socket >= 0 && link->index == was->index);
         if (stays) continue;
-        take_out_of_team(plane->team, was->index);
-        put_back_former(plane->carry->process, &plane->tap->fast, was);
+        take_out_of_team_and_bring_up(plane->team, was->index);
+        put_back_former(&plane->carry->process->store, inherited, plane->carry->process->folder, &plane->tap->fast, was);
     }
 }

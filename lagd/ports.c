@@ -53,7 +53,6 @@ void read_views_and_count(struct core *core, struct ports *ports) {
         const struct niw_view *now = &views[link->settings.number - 1];
         if (!(changed >> (link->settings.number - 1) & 1)) continue;
         count_change(link->counts, &link->view, now);
-        if (now->receive_state == NIW_RECEIVE_DEFAULTED && link->view.receive_state != NIW_RECEIVE_DEFAULTED) forget_partner(core->settings, link);
         link->view = *now;
         link->changed = true;
     }
@@ -65,7 +64,8 @@ static bool is_same_facts(const struct facts *one, const struct facts *other) {
         && one->partner_port == other->partner_port;
 }
 
-static bool print_facts(struct printer *printer, const struct ports *ports, const struct link *link, const struct facts *facts, bool watchers_told) {
+static bool find_holder_and_print_facts(struct printer *printer, const struct ports *ports, const struct link *link, const struct facts *facts,
+    bool watchers_told) {
     char whose[96] = "no partner", system[32], trouble[128] = "", holder[HOLDER_ROOM];
     int level = (facts->status == NIW_PORT_STATUS_DISTRIBUTING ? LOG_NOTICE : LOG_WARNING) | (watchers_told ? WATCHED : 0) | ABOUT_PORT;
     if (!facts->defaulted)
@@ -89,7 +89,7 @@ bool print_change(struct core *core, const struct protocol *protocol, struct lin
     }
     link->watched = true;
     link->shown = facts;
-    link->changed = !same && !print_facts(core->printer, protocol->ports, link, &facts, watched);
+    link->changed = !same && !find_holder_and_print_facts(core->printer, protocol->ports, link, &facts, watched);
     if (same || link->changed) return false;
     link->reported = true;
     link->printed = facts;

@@ -27,7 +27,7 @@ void reset_if_other_partner(struct probe *own, const struct carry *carry) {
 }
 
 /* Sends a marker behind the data of a port of the active aggregator. There is none while no identifier is left, or the link is down. */
-static void ask_peer(struct carry *carry) {
+static void withdraw_and_ask_peer(struct carry *carry) {
     struct probe *own = &carry->probe;
     uint8_t marker[NIW_FRAME];
     struct niw_sent asked = niw_probe(&carry->core->system, carry->active_ports[0], marker, sizeof marker);
@@ -75,5 +75,5 @@ void pass_probe_tick(struct tap_plane *tap) {
         if (withdraw_and_repeat_marker(tap, own->asked_on)) carry->counts[MARKERS_AGAIN]++;
     }
     if (own->asking || carry->active_count == 0) return;
-    if (own->peer == NOT_ASKED || (own->peer == MUTE && carry->time - own->asked_at >= LATER)) ask_peer(carry);
+    if (own->peer == NOT_ASKED || (own->peer == MUTE && carry->time - own->asked_at >= LATER)) withdraw_and_ask_peer(carry);
 }

@@ -14,7 +14,7 @@ static const char *restart_for(const struct settings *now, const struct keys *ke
  * 802.1AX-2014, 6.4.4), and current_while has the rest of the short timeout: the last LACPDU comes again, as the partner will send it, and starts the
  * timer with the long one. It is kept so for the next daemon. No frame came, so nothing is counted. An LACPDU that is too old for the short timeout
  * does not come again, nor one whose actor may no longer be the partner. Answers whether the library took that. */
-static bool take_again(struct core *core, struct link *link) {
+static bool take_lacpdu_again(struct core *core, struct link *link) {
     uint16_t port = link->settings.number;
     uint8_t response[NIW_FRAME];
     struct system_id actor;
@@ -45,14 +45,14 @@ bool change_port(struct protocol *protocol, struct link *link, const struct sett
     }
     if ((next.active != now->active || next.short_timeout != now->short_timeout)
         && is_done(protocol->core, niw_set_mode(&protocol->core->system, port, next.active, next.short_timeout), "niw_set_mode")
-        && (!now->short_timeout || next.short_timeout || take_again(protocol->core, link))) {
+        && (!now->short_timeout || next.short_timeout || take_lacpdu_again(protocol->core, link))) {
         now->active = next.active;
         now->short_timeout = next.short_timeout;
         changed = true;
     }
     if (link->held == hold) return changed;
     link->held = hold;
-    return begin_hold_or_release(protocol, link) || changed;
+    return begin_emptying_or_apply_hold(protocol, link) || changed;
 }
 
 /* Who may be the partner changes for each link at once. One that is no longer pinned is so by who speaks next. */
@@ -118,7 +118,7 @@ static unsigned apply_settings(struct protocol *protocol, const struct settings 
 
 /* Reads a file; answers whether it is right. The system that an interface gave its address at the start keeps it. */
 static bool read_file_again(struct process *process, const char *file, struct settings *wanted) {
-    if (!read_bundle_file(process, file, wanted)) return false;
+    if (!read_bundle_file(&process->printer, &process->words, file, wanted)) return false;
     if (!wanted->system_auto || !process->settings->system_auto) return true;
     memcpy(wanted->config.mac, process->settings->config.mac, sizeof wanted->config.mac);
     return check_whole_bundle(&process->printer, file, wanted);

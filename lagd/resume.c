@@ -73,27 +73,27 @@ bool has_carried_links(const struct inherited *inherited) {
 }
 
 /* Tells what became of the links of the last daemon, if some are there. */
-static void tell_links(struct process *process, const struct ports *ports, unsigned count) {
+static void tell_links(struct printer *printer, const struct ports *ports, unsigned count) {
     unsigned known = 0;
-    EACH_LINK_AS_IS(link, ports) known += link->socket >= 0 && inherited_of(process->inherited, link) != NULL;
-    if (known > 0 && process->inherited->others)
-        (void)say(&process->printer, LOG_WARNING | ABOUT_HANDOVER, "the state that the last daemon left is not used: it belongs to other settings");
+    EACH_LINK_AS_IS(link, ports) known += link->socket >= 0 && inherited_of(printer->process->inherited, link) != NULL;
+    if (known > 0 && printer->process->inherited->others)
+        (void)say(printer, LOG_WARNING | ABOUT_HANDOVER, "the state that the last daemon left is not used: it belongs to other settings");
     else if (known > 0)
-        (void)say(&process->printer, LOG_NOTICE | ABOUT_HANDOVER, "%u of %u links go on where the last daemon left them", count, count_links(ports));
+        (void)say(printer, LOG_NOTICE | ABOUT_HANDOVER, "%u of %u links go on where the last daemon left them", count, count_links(ports));
 }
 
 /* Once the interfaces are taken up: the ports that distributed do so again. Answers how many went on. Nothing but conversations that stay where they
  * were comes before bring_up_others_and_send: so the system goes on from the last one as a warm start does. */
-unsigned resume(struct protocol *protocol) {
+unsigned resume(struct core *core, const struct protocol *protocol, struct ports *ports) {
     struct niw_saved saved[NIW_MOST_PORTS];
     size_t count = 0;
     const struct inherited *inherited = protocol->process->inherited;
     const uint64_t now = boottime() + inherited->ahead; /* as the last daemon had it */
-    EACH_LINK(link, protocol->ports)
+    EACH_LINK_AS_IS(link, ports)
         if (protocol->process->resuming && goes_on(inherited, link, now)) saved[count++] = saved_of(inherited, link, now);
-    count = resume_system(protocol->core, protocol, saved, count);
-    for (size_t i = 0; i < count; i++) recall_partner(protocol->process, &protocol->ports->links[saved[i].port - 1]);
-    tell_links(protocol->process, protocol->ports, (unsigned)count);
+    count = resume_system(core, protocol, saved, count);
+    for (size_t i = 0; i < count; i++) recall_partner(protocol->process, &ports->links[saved[i].port - 1]);
+    tell_links(core->printer, ports, (unsigned)count);
     return (unsigned)count;
 }
 
@@ -109,11 +109,11 @@ void bring_up_others_and_send(struct protocol *protocol) {
     send_due_and_read_views(protocol);
 }
 
-static void stay_on_port(struct carry *carry, uint16_t number, uint16_t port) {
-    if (niw_adopt(&carry->core->system, carry->active, number, port) != NIW_OK) return;
-    carry->conversations[number].home = carry->active;
-    carry->conversations[number].port = port;
-    carry->conversations[number].last = carry->time;
+static void stay_on_port(struct niw_system *system, const struct carry *carry, struct conversation *conversation, uint16_t port) {
+    if (niw_adopt(system, carry->active, (uint16_t)(conversation - carry->conversations), port) != NIW_OK) return;
+    conversation->home = carry->active;
+    conversation->port = port;
+    conversation->last = carry->time;
 }
 
 /* The port of an interface that carries in the active aggregator, or 0. */
@@ -127,17 +127,17 @@ static uint16_t port_carrying_on(struct core *core, const struct carry *carry, i
 
 /* After the ports: data goes on where it was, as far as some ports do. What the kernel passes on knows best where it goes. The team driver has each
  * bucket where it was: it is told of none before it is known where its conversation goes on. */
-void resume_conversations(struct plane *plane, bool goes_on) {
+void resume_conversations_or_end(struct plane *plane, bool goes_on) {
     struct carry *carry = plane->carry;
     if (goes_on) {
-        go_on_in(carry, carry->process->inherited->bundle.aggregator);
+        recall_active_aggregator(carry, carry->process->inherited->bundle.aggregator);
         CALL(plane->carrying->go_on, plane);
         recall_answering(&carry->probe, carry, (enum answering)carry->process->inherited->answering);
     }
     for (uint16_t number = 0; goes_on && number < CONVERSATIONS; number++) {
         int member = ASK(plane->carrying->member_of, 0, plane, number);
         uint16_t port = port_carrying_on(carry->core, carry, member != 0 ? member : carry->process->inherited->members[number]);
-        if (port != 0) stay_on_port(carry, number, port);
+        if (port != 0) stay_on_port(&carry->core->system, carry, &carry->conversations[number], port);
     }
     CALL(plane->passing->resume, plane->tap);
 }

@@ -99,15 +99,14 @@ uint64_t patience_with(const struct protocol *protocol, uint16_t active, uint16_
 }
 
 /* The peer sends in an aggregator that this end does not prefer, and in no other one: both ends go by it, or no data would arrive. */
-void follow_peer(struct protocol *protocol, uint16_t aggregator) {
-    struct choice *own = &protocol->choice;
+void follow_peer(struct core *core, struct choice *own, const struct protocol *protocol, uint16_t aggregator) {
     own->last = aggregator;
-    own->followed = aggregator_after(protocol->core, protocol, 0) == aggregator ? 0 : aggregator;
+    own->followed = aggregator_after(core, protocol, 0) == aggregator ? 0 : aggregator;
     if (own->followed == 0)
-        (void)say(protocol->core->printer, LOG_NOTICE | ABOUT_BUNDLE, "bundle %s: the peer sends in aggregator %u: it carries",
+        (void)say(core->printer, LOG_NOTICE | ABOUT_BUNDLE, "bundle %s: the peer sends in aggregator %u: it carries",
             protocol->settings->name, aggregator);
     else
-        (void)say(protocol->core->printer, LOG_WARNING | ABOUT_BUNDLE,
+        (void)say(core->printer, LOG_WARNING | ABOUT_BUNDLE,
             "bundle %s: the peer sends in aggregator %u: it carries, whatever select=%s prefers", protocol->settings->name, aggregator,
             SELECTIONS[protocol->settings->select]);
 }

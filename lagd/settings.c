@@ -58,7 +58,7 @@ static bool is_path(const char *text) {
     return text[0] == '/' && strlen(text) < PATH_ROOM;
 }
 
-static bool is_path_of_program(const char *text) {
+static bool is_program_in_file_system(const char *text) {
     struct stat found;
     return is_path(text) && stat(text, &found) == 0 && S_ISREG(found.st_mode) && access(text, X_OK) == 0;
 }
@@ -110,7 +110,7 @@ const struct key BUNDLE_KEYS[] = {
     /* As often as IEEE 802.3, annex 57A, lets one of the slow protocols send. */
     {"marker-responses", 'o', NUMBER(marker_responses, 0, 10000), .usual = 10, .change = AT_ONCE,
         .help = "the most that a port sends in a second (10)"},
-    {"hook", 'x', TEXT(hook, "a path that begins with /, of at most 175 characters, of a program that may be run", is_path_of_program),
+    {"hook", 'x', TEXT(hook, "a path that begins with /, of at most 175 characters, of a program that may be run", is_program_in_file_system),
         .change = AT_ONCE, .value = "PROGRAM", .help = "is run when the bundle becomes up, degraded or down"},
     {"state-dir", 'T', TEXT(state_dir, "a path that begins with /, of at most 175 characters", is_path), .restart = "another state-dir",
         .value = "FOLDER", .help = "keeps what a start after a reboot goes on from"},

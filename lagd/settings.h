@@ -9,8 +9,6 @@
 #include "lag.h"
 #include "shared.h"
 
-struct process;
-
 #define NAME_ROOM 128  /* of a name of an interface, of its alternative names too: ALTIFNAMSIZ of linux/if.h */
 #define DEVICE_ROOM 16 /* of the name of a device that is made, with a zero: IFNAMSIZ of linux/if.h */
 #define PATH_ROOM 176  /* of the path of a hook or a folder: with its key it fits into a line of a file */
@@ -153,6 +151,6 @@ bool wants_hold(const struct settings *settings, uint16_t port);
 /* file.c */
 struct printer;
 bool check_whole_bundle(struct printer *printer, const char *path, const struct settings *settings);
-bool read_bundle_file(struct process *process, const char *path, struct settings *wanted);
+bool read_bundle_file(struct printer *printer, struct words *words, const char *path, struct settings *wanted);
 
 #endif

@@ -20,17 +20,18 @@ unsigned long network_namespace(void) {
     return stat("/proc/self/ns/net", &file) == 0 ? (unsigned long)file.st_ino : 0;
 }
 
-/* Whether a file is the status socket of a daemon of this namespace, of which bundle. */
-static bool read_socket_name(const char *name, struct found_socket *socket) {
+/* Whether a file is the status socket of a daemon of this network namespace, and of which bundle. */
+static bool read_socket_name(unsigned long space, const char *name, char bundle[static 128]) {
     char head[32];
-    size_t length = (size_t)snprintf(head, sizeof head, "%lu.", network_namespace()), whole = strlen(name);
+    size_t length = (size_t)snprintf(head, sizeof head, "%lu.", space), whole = strlen(name);
     if (strncmp(name, head, length) != 0 || whole <= length + 5 || strcmp(name + whole - 5, ".sock") != 0) return false;
-    snprintf(socket->bundle, sizeof socket->bundle, "%.*s", (int)(whole - length - 5), name + length);
+    snprintf(bundle, 128, "%.*s", (int)(whole - length - 5), name + length);
     return true;
 }
 
 /* Finds the status sockets in a folder, and in the folders in it. */
 void find_sockets(struct found *found, const char *folder, bool deeper) {
+    unsigned long space = network_namespace();
     struct dirent **entries = NULL;
     int count = scandir(folder, &entries, NULL, alphasort);
     if (count < 0 && errno == EACCES) {
@@ -42,7 +43,7 @@ void find_sockets(struct found *found, const char *folder, bool deeper) {
         const char *name = entries[i]->d_name;
         bool fits = name[0] != '.' && snprintf(path, sizeof path, "%s/%s", folder, name) < (int)sizeof path;
         struct stat file;
-        if (fits && found->count < MOST_DAEMONS && read_socket_name(name, &found->sockets[found->count]))
+        if (fits && found->count < MOST_DAEMONS && read_socket_name(space, name, found->sockets[found->count].bundle))
             memcpy(found->sockets[found->count++].path, path, sizeof path);
         else if (fits && deeper && lstat(path, &file) == 0 && S_ISDIR(file.st_mode))
             find_sockets(found, path, false);

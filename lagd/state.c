@@ -64,9 +64,9 @@ static void write_conversations(struct core *core, const struct carry *carry, in
     }
 }
 
-static void write_state(struct core *core, struct state *own, FILE *file) {
-    struct carry *carry = own->carry;
-    struct protocol *protocol = carry->protocol;
+static void write_state(struct core *core, const struct state *own, int members[static CONVERSATIONS], FILE *file) {
+    const struct carry *carry = own->carry;
+    const struct protocol *protocol = carry->protocol;
     struct niw_marker marker = niw_next_marker(&core->system);
     char boot[BOOT_ROOM], room[WAY_ROOM], mac[32];
     fprintf(file, "lagd %u\nboot %s\nway %s\n", FORM_VERSION, boot_id(boot), way_text(carry, room));
@@ -78,23 +78,23 @@ static void write_state(struct core *core, struct state *own, FILE *file) {
     if (carry->device->index != 0)
         fprintf(file, "tap %d %d %" PRIu32 " %u\n", carry->device->index, carry->plane->owns_device,
             carry->device->less_mtu, carry->probe.peer);
-    EACH_LINK(link, carry->ports)
+    EACH_LINK_AS_IS(link, carry->ports)
         if (link->used) fprintf(file, "port %u %d %s\n", link->settings.number, link->socket >= 0 ? link->index : 0, link->name);
-    EACH_LINK(link, carry->ports) {
+    EACH_LINK_AS_IS(link, carry->ports) {
         if (link->socket < 0) continue;
         fprintf(file, "link %d %s %" PRIu32 " %d %" PRIu64 " %" PRIu64 " ", link->index, mac_text(link->mac, mac), link->kernel_losses,
             is_carrying(link), link->lacpdu_at, link->lacpdus_at[MOST_LACPDUS - 1]);
         for (size_t i = 0; i < NIW_FRAME; i++) fprintf(file, "%02x", link->lacpdu[i]);
         fprintf(file, " %u\n", link->view.aggregator);
     }
-    write_conversations(carry->core, carry, own->members, file);
+    write_conversations(core, carry, members, file);
     fputs("end\n", file);
 }
 
 /* This file, or none for NULL, is the state that was written last. */
-static void keep_file(struct state *own, FILE *file) {
-    if (own->file) fclose(own->file);
-    own->file = file;
+static void keep_file(FILE **kept, FILE *file) {
+    if (*kept) fclose(*kept);
+    *kept = file;
 }
 
 /* Removes what processes that were killed wrote of a copy: one that still hangs on the disk finds nothing then to put in the place of another. */
@@ -111,13 +111,13 @@ static void remove_new_copies(const struct state *own) {
 }
 
 /* Puts a whole file in the place of the last one; it is on the disk, and so is its name, if it `lasts`. Answers it, or NULL, and errno tells why. */
-static FILE *replace_file(struct core *core, struct state *own, int folder, const char *name, bool lasts) {
+static FILE *replace_file(struct core *core, const struct state *own, int members[static CONVERSATIONS], int folder, const char *name, bool lasts) {
     char new_name[NAME_ROOM + 64];
     snprintf(new_name, sizeof new_name, "%s.new", name);
     if (lasts) snprintf(new_name, sizeof new_name, "%s.%d.new", name, (int)getpid()); /* whoever writes a copy has a file of its own */
     FILE *file = open_in(folder, new_name, O_WRONLY | O_CREAT | O_TRUNC | O_APPEND, "a");
     if (!file) return NULL;
-    write_state(core, own, file);
+    write_state(core, own, members, file);
     if (fflush(file) == 0 && !ferror(file) && (!lasts || fsync(fileno(file)) == 0) && !core->broken
         && renameat(folder, new_name, folder, name) == 0 && (!lasts || fsync(folder) == 0))
         return file;
@@ -129,13 +129,13 @@ static FILE *replace_file(struct core *core, struct state *own, int folder, cons
 }
 
 /* It could not be written: there is none. */
-static void give_up_file(struct state *own) {
+static void give_up_file_and_tell(struct state *own) {
     if (!own->failed)
         (void)say(own->carry->core->printer, LOG_WARNING | ABOUT_HANDOVER, "its state cannot be kept, so the next daemon starts anew: %s",
             strerror(-last_fault()));
     own->failed = true;
     (void)unlinkat(own->carry->process->folder, own->name, 0);
-    keep_file(own, NULL);
+    keep_file(&own->file, NULL);
 }
 
 /* The next frame of a conversation goes on this port: a daemon that goes on from here has to know. */
@@ -143,7 +143,7 @@ void write_port_of_conversation(struct state *own, uint16_t number, uint16_t por
     int index = own->carry->ports->links[port - 1].index;
     if (!own->file || own->members[number] == index) return;
     own->members[number] = index;
-    if (fprintf(own->file, "on %u %d\n", number, index) < 0 || fflush(own->file) != 0) give_up_file(own);
+    if (fprintf(own->file, "on %u %d\n", number, index) < 0 || fflush(own->file) != 0) give_up_file_and_tell(own);
 }
 
 /* Removes a state, or what it has, on the disk too if it `lasts`; answers 0, or -errno. */
@@ -194,9 +194,10 @@ static uint64_t lasting_ports(const struct ports *ports) {
 
 /* A process that writes the copy, or removes it where no port would go on from it. It has nothing else of the daemon, and prints nothing. It ends
  * with the daemon: in a call that hangs on the disk, once that call is over. */
-static _Noreturn void run_copier(struct state *own, int told, pid_t daemon) {
+static _Noreturn void write_or_remove_copy_and_exit(struct core *core, const struct state *own, int told, pid_t daemon) {
     bool wanted = own->copied_ports != 0;
     struct copied copied = {0, 0};
+    int members[CONVERSATIONS];
     sigset_t none;
     if (prctl(PR_SET_PDEATHSIG, SIGKILL) < 0 || getppid() != daemon) _exit(REFUSED);
     for (int fd = STDERR_FILENO + 1; fd < MOST_OPENED; fd++)
@@ -207,7 +208,7 @@ static _Noreturn void run_copier(struct state *own, int told, pid_t daemon) {
     sigemptyset(&none);
     sigprocmask(SIG_SETMASK, &none, NULL);
     remove_new_copies(own);
-    if (wanted && !replace_file(own->carry->core, own, own->copy_folder, own->copy_name, true)) copied.written = last_fault();
+    if (wanted && !replace_file(core, own, members, own->copy_folder, own->copy_name, true)) copied.written = last_fault();
     if (!wanted || copied.written < 0) copied.removed = remove_file(own->copy_folder, own->copy_name, true);
     (void)!write(told, &copied, sizeof copied);
     _exit(DONE);
@@ -225,7 +226,7 @@ static int start_copier(struct state *own) {
     if (socketpair(AF_UNIX, SOCK_STREAM | SOCK_NONBLOCK | SOCK_CLOEXEC, 0, ends) < 0) return last_fault(); /* the unit has no pipes */
     own->copier = fork();
     int fault = own->copier < 0 ? last_fault() : 0;
-    if (own->copier == 0) run_copier(own, ends[1], daemon);
+    if (own->copier == 0) write_or_remove_copy_and_exit(own->carry->core, own, ends[1], daemon);
     own->copied = ends[0];
     close(ends[1]);
     if (fault < 0) forget_copier(&own->copied);
@@ -287,10 +288,10 @@ static void finish_copy(struct state *own, bool wanted) {
 bool save_state(struct state *own, bool leaves) {
     struct process *process = own->carry->process;
     if (own->over || own->carry->core->broken || !process->has_started) return false;
-    FILE *file = replace_file(own->carry->core, own, process->folder, own->name, false);
-    if (!file) give_up_file(own);
+    FILE *file = replace_file(own->carry->core, own, own->members, process->folder, own->name, false);
+    if (!file) give_up_file_and_tell(own);
     if (file) own->failed = false;
-    keep_file(own, file);
+    keep_file(&own->file, file);
     if (own->copy_folder >= 0 && leaves && file) finish_copy(own, true);
     if (own->copy_folder >= 0 && !leaves) pass_copy_second(own);
     return file != NULL;
@@ -300,7 +301,7 @@ bool save_state(struct state *own, bool leaves) {
 void remove_state(struct state *own) {
     struct process *process = own->carry->process;
     own->over = true;
-    keep_file(own, NULL);
+    keep_file(&own->file, NULL);
     tell_failed_removal(&process->printer, own->name, remove_file(process->folder, own->name, false));
     if (own->copy_folder >= 0) finish_copy(own, false);
 }
@@ -333,21 +334,21 @@ static bool read_port_number(struct inherited *inherited, FILE *file) {
 }
 
 /* Reads a conversation. The last line of a file may be cut off: each one ends with its line end. */
-static bool read_conversation(struct inherited *inherited, FILE *file) {
+static bool read_conversation(int members[static CONVERSATIONS], FILE *file) {
     unsigned number;
     int index;
     char end;
     if (fscanf(file, "%u %d%c", &number, &index, &end) != 3 || end != '\n' || number >= CONVERSATIONS || index <= 0) return false;
-    inherited->members[number] = index;
+    members[number] = index;
     return true;
 }
 
-static bool read_bundle(struct inherited *inherited, FILE *file) {
+static bool read_bundle(struct bundle *bundle, FILE *file) {
     unsigned state, aggregator;
     long long changed;
     if (fscanf(file, "%u %u %lld", &state, &aggregator, &changed) != 3 || state >= BUNDLE_STATES || aggregator > NIW_MOST_PORTS)
         return false;
-    inherited->bundle = (struct bundle){.state = (enum bundle_state)state, .aggregator = (uint16_t)aggregator, .changed_at = (time_t)changed};
+    *bundle = (struct bundle){.state = (enum bundle_state)state, .aggregator = (uint16_t)aggregator, .changed_at = (time_t)changed};
     return true;
 }
 
@@ -356,14 +357,14 @@ static bool read_state_line(struct inherited *inherited, const char *word, FILE 
     if (strcmp(word, "written") == 0) return fscanf(file, "%" SCNu64, &inherited->written) == 1;
     if (strcmp(word, "wall") == 0) return fscanf(file, "%" SCNu64, &inherited->wall) == 1;
     if (strcmp(word, "marker") == 0) return fscanf(file, "%" SCNu32, &inherited->marker) == 1;
-    if (strcmp(word, "bundle") == 0) return read_bundle(inherited, file);
+    if (strcmp(word, "bundle") == 0) return read_bundle(&inherited->bundle, file);
     if (strcmp(word, "follows") == 0) return inherited->follows = true;
     if (strcmp(word, "tap") == 0)
         return fscanf(file, "%d %d %" SCNu32 " %u", &inherited->tap, &inherited->persists, &inherited->mtu, &inherited->answering) == 4
             && inherited->answering <= MUTE;
     if (strcmp(word, "port") == 0) return read_port_number(inherited, file);
     if (strcmp(word, "link") == 0) return read_inherited_link(inherited, file);
-    return strcmp(word, "on") == 0 && read_conversation(inherited, file);
+    return strcmp(word, "on") == 0 && read_conversation(inherited->members, file);
 }
 
 /* Reads the lines behind the first three; answers whether the last one is there. Behind that stand the conversations that went to another link
@@ -375,7 +376,7 @@ static bool read_state_lines(struct inherited *inherited, FILE *file) {
         whole = strcmp(word, "end") == 0;
         if (!whole && !read_state_line(inherited, word, file)) return false;
     }
-    while (whole && fscanf(file, "%15s", word) == 1 && strcmp(word, "on") == 0 && read_conversation(inherited, file)) continue;
+    while (whole && fscanf(file, "%15s", word) == 1 && strcmp(word, "on") == 0 && read_conversation(inherited->members, file)) continue;
     return whole;
 }
 
@@ -393,7 +394,7 @@ static void leave_all_but_interfaces(struct inherited *inherited, struct plane *
 
 /* Of another boot ports have the interfaces of their names, as far as these are there, and times are as old as the clock on the wall has them,
  * and older than this boot. Nothing of the device and of conversations is left. Answers NULL, or why it counts for nothing. */
-static const char *bring_over(struct inherited *inherited) {
+static const char *bring_over_and_find_interfaces(struct inherited *inherited) {
     uint64_t now = milliseconds_of(CLOCK_REALTIME), up = boottime(), age = now - inherited->wall;
     unsigned links = 0;
     if (inherited->wall == 0 || now < inherited->wall) return "it is of another boot, and of later than now";
@@ -415,8 +416,8 @@ static const char *bring_over(struct inherited *inherited) {
 }
 
 /* Takes over a state; answers NULL, or why it counts for nothing. In another network namespace its numbers of interfaces are those of others. */
-static const char *read_state_and_leave_other_device(struct state *own, FILE *file, bool is_copy) {
-    struct inherited *inherited = own->carry->process->inherited;
+static const char *read_state_and_leave_other_device(struct inherited *inherited, struct plane *plane, const struct state *own, FILE *file,
+    bool is_copy) {
     unsigned version;
     char boot[BOOT_ROOM], now[BOOT_ROOM], given[WAY_ROOM], room[WAY_ROOM];
     if (fscanf(file, "lagd %u", &version) != 1) return "it is no state of lagd";
@@ -426,9 +427,9 @@ static const char *read_state_and_leave_other_device(struct state *own, FILE *fi
     if (!read_state_lines(inherited, file)) return "it is cut off, or wrong";
     if (ferror(file)) return "it cannot be read";
     bool is_same_way = strcmp(given, way_text(own->carry, room)) == 0;
-    if (is_copy) return is_same_way ? bring_over(inherited) : "it belongs to other settings";
+    if (is_copy) return is_same_way ? bring_over_and_find_interfaces(inherited) : "it belongs to other settings";
     if (inherited->space != 0 && inherited->space != own->space) return "it is of another network namespace";
-    if (!is_same_way) leave_all_but_interfaces(inherited, own->carry->plane, given);
+    if (!is_same_way) leave_all_but_interfaces(inherited, plane, given);
     return NULL;
 }
 
@@ -475,7 +476,7 @@ void recall_state_and_leave_other_device(struct state *own) {
     CLOSED_STREAM FILE *file = open_owned_state(own->carry->process->folder, own->name);
     bool is_copy = !file && own->copy_folder >= 0;
     if (is_copy) file = open_owned_state(own->copy_folder, own->copy_name);
-    const char *fault = file ? read_state_and_leave_other_device(own, file, is_copy) : NULL;
+    const char *fault = file ? read_state_and_leave_other_device(own->carry->process->inherited, own->carry->plane, own, file, is_copy) : NULL;
     if (!fault) return;
     *own->carry->process->inherited = (struct inherited){0};
     (void)say(own->carry->core->printer, LOG_WARNING | ABOUT_HANDOVER, "the state that the last daemon left is not used: %s", fault);

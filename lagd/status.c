@@ -18,22 +18,22 @@ static void close_caller(struct caller *caller) {
     *caller = (struct caller){.fd = -1};
 }
 
-/* A free place for a user, or NULL, and why there is none. */
-static struct caller *find_caller_place(struct status *own, uid_t user, const char **why) {
-    struct caller *found = NULL;
+/* The number of a free place for a user, or -1, and why there is none. */
+static int find_caller_place(const struct status *own, uid_t user, const char **why) {
+    int found = -1;
     unsigned free_ones = 0, of_user = 0;
-    EACH_CALLER(caller, own) {
-        if (caller->fd < 0) found = caller;
-        free_ones += caller->fd < 0;
-        of_user += caller->fd >= 0 && caller->user == user;
+    for (int i = 0; i < MOST_CALLERS; i++) {
+        if (own->callers[i].fd < 0) found = i;
+        free_ones += own->callers[i].fd < 0;
+        of_user += own->callers[i].fd >= 0 && own->callers[i].user == user;
     }
     if (of_user >= MOST_OF_USER)
         *why = "this user has too many connections";
-    else if (!found || (user != 0 && free_ones <= ROOTS_OWN))
+    else if (found < 0 || (user != 0 && free_ones <= ROOTS_OWN))
         *why = "all connections are taken";
     else
         return found;
-    return NULL;
+    return -1;
 }
 
 /* Gives a caller a short answer, and lets him go. */
@@ -46,10 +46,10 @@ static void accept_one(struct status *own, int epoll_file, int fd) {
     struct ucred who = {0};
     socklen_t length = sizeof who;
     const char *why = NULL;
-    struct caller *place = getsockopt(fd, SOL_SOCKET, SO_PEERCRED, &who, &length) == 0 ? find_caller_place(own, who.uid, &why) : NULL;
-    struct caller caller = {.fd = fd, .tag = place ? CALLERS + (uint32_t)(place - own->callers) : 0, .user = who.uid, .ticks = PATIENCE};
-    if (place && await_input(epoll_file, fd, caller.tag)) {
-        *place = caller;
+    int place = getsockopt(fd, SOL_SOCKET, SO_PEERCRED, &who, &length) == 0 ? find_caller_place(own, who.uid, &why) : -1;
+    struct caller caller = {.fd = fd, .tag = place < 0 ? 0 : CALLERS + (uint32_t)place, .user = who.uid, .ticks = PATIENCE};
+    if (place >= 0 && await_input(epoll_file, fd, caller.tag)) {
+        own->callers[place] = caller;
         return;
     }
     char text[128];
@@ -97,19 +97,17 @@ static void let_watch(const struct status *own, struct caller *caller) {
     if (!caller->watches) end_with(caller, REFUSAL "this user watches too often\n");
 }
 
-/* Answers a question by a report, of what the library and the kernel tell now; one that is not known has none. */
-static void send_report(struct control *control, struct caller *caller) {
+/* Answers a question by the report of the printer; one that is not known has none. */
+static void write_and_send_report(struct core *core, const struct control *control, struct caller *caller) {
     const char *asked = caller->question;
-    struct report *report = control->report;
+    struct report *report = core->printer->report;
     report->length = 0;
     report->refusal = NIW_OK;
-    read_views_and_count(control->core, control->ports);
-    CALL(control->plane->passing->count, control->plane->tap);
     if (strcmp(asked, "text") == 0) write_text(report, control);
     if (strcmp(asked, "config") == 0) write_config(report, control);
     if (strcmp(asked, "json") == 0) write_json(report, control);
     if (strcmp(asked, "metrics") == 0) write_metrics(report, control);
-    if (!is_done(control->core, report->refusal, report->refused) || control->core->broken) report->length = 0;
+    if (!is_done(core, report->refusal, report->refused) || core->broken) report->length = 0;
     caller->rest = report->length > 0 ? malloc(report->length) : NULL;
     caller->answer_length = report->length;
     if (!caller->rest) {
@@ -135,10 +133,12 @@ static void serve_question(struct control *control, struct caller *caller) {
         let_watch(&control->process->status, caller);
     } else if (is_order(caller->question)) {
         char answer[ORDER_ROOM] = REFUSAL "root alone may change a bundle\n";
-        if (caller->user == 0) answer_order(control->protocol, caller->question, answer);
+        if (caller->user == 0) obey_order_and_answer(control->protocol, caller->question, answer);
         end_with(caller, answer);
     } else {
-        send_report(control, caller);
+        read_views_and_count(control->core, control->ports);
+        CALL(control->plane->passing->count, control->plane->tap);
+        write_and_send_report(control->core, control, caller);
     }
 }
 
@@ -170,10 +170,10 @@ void tell_watchers(struct status *own, const char *text, size_t length, bool jso
             close_caller(caller);
 }
 
-/* Tells those who watch in JSON how a port is now, or the bundle, where `link` is null, by the report of `control`. */
+/* Tells those who watch in JSON how a port is now, or the bundle, where `link` is null, by the report of the printer. */
 void write_report_and_tell_watchers(struct core *core, const struct control *control, const struct link *link) {
     struct status *own = core->printer->watchers;
-    struct report *report = control->report;
+    struct report *report = core->printer->report;
     bool any = false;
     EACH_CALLER(caller, own) any = any || (caller->watches && caller->json);
     if (!any) return;

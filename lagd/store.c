@@ -25,7 +25,7 @@ void notify_bundle(const struct bundle *bundle UNUSED, const char *what UNUSED) 
     (void)sd_notifyf(0, "%sSTATUS=%s, %u of %u links carry", what, BUNDLE_STATE_TEXTS[bundle->state], bundle->carrying, bundle->links);
 }
 
-static void name_stored(const char *kind, int number, char room[static NAME_OF_FILE]) {
+static void name_stored_in_namespace(const char *kind, int number, char room[static NAME_OF_FILE]) {
     snprintf(room, NAME_OF_FILE, "%s-%lu-%d", kind, network_namespace(), number);
 }
 
@@ -41,18 +41,19 @@ bool has_store(void) {
     return HAS_LIBRARY && manager && manager[0] && most && atoi(most) > 0;
 }
 
-/* The manager keeps a file, too, until drop_stored. Where the kernel cannot compare files (kcmp), it would keep one twice that it has already. */
+/* The manager keeps a file, too, until drop_stored_without_closing. Where the kernel cannot compare files (kcmp), it would keep one twice that it
+ * has already. */
 void put_stored(const struct store *own, const char *kind, int number, int fd) {
     char name[NAME_OF_FILE];
-    name_stored(kind, number, name);
+    name_stored_in_namespace(kind, number, name);
     for (size_t i = 0; i < own->count; i++)
         if (own->stored[i].taken == fd && strcmp(own->stored[i].name, name) == 0) return;
     if (has_store()) tell_store("FDSTORE", name, fd);
 }
 
-void drop_stored(struct store *own, const char *kind, int number) {
+void drop_stored_without_closing(struct store *own, const char *kind, int number) {
     char name[NAME_OF_FILE];
-    name_stored(kind, number, name);
+    name_stored_in_namespace(kind, number, name);
     EACH_STORED(it, own)
         if (strcmp(it->name, name) == 0) it->taken = -1;
     if (has_store()) tell_store("FDSTOREREMOVE", name, -1);
@@ -61,7 +62,7 @@ void drop_stored(struct store *own, const char *kind, int number) {
 /* A file that the last daemon left, and that is taken, or not; or NULL. */
 static struct stored *find_stored(struct store *own, const char *kind, int number, bool taken) {
     char name[NAME_OF_FILE];
-    name_stored(kind, number, name);
+    name_stored_in_namespace(kind, number, name);
     EACH_STORED(it, own)
         if ((it->fd < 0) == taken && strcmp(it->name, name) == 0) return it;
     return NULL;
@@ -76,8 +77,9 @@ int claim_stored(struct store *own, const char *kind, int number) {
     return found->taken;
 }
 
-/* Gives back what was taken, for who takes it next. The manager closes what it is to keep no more a moment later, and a lock is held until then. */
-void return_stored(struct store *own, const char *kind, int number, int fd) {
+/* Gives back what was taken, for who takes it next; what the last daemon did not leave is closed. The manager closes what it is to keep no more a
+ * moment later, and a lock is held until then. */
+void return_stored_or_close(struct store *own, const char *kind, int number, int fd) {
     struct stored *found = find_stored(own, kind, number, true);
     if (!found) {
         close(fd);
@@ -95,8 +97,8 @@ static bool keeps_program_in_use(const struct store *own, int fd) {
     return false;
 }
 
-/* What nobody took is kept no more. The manager forgets all files of a name: it keeps again what of them is in use. */
-void drop_unclaimed(struct store *own) {
+/* What nobody took is kept no more, and its programs run no more. The manager forgets all files of a name: it keeps again what of them is in use. */
+void detach_and_drop_unclaimed(struct store *own) {
     EACH_STORED(it, own) {
         if (it->fd < 0) continue;
         tell_store("FDSTOREREMOVE", it->name, -1);
@@ -109,7 +111,7 @@ void drop_unclaimed(struct store *own) {
 }
 
 /* The program ends, by whatever it is refused: nothing goes on without it, as the carrier of its device. */
-static void empty_store(int status UNUSED, void *given) {
+static void empty_store_of_manager(int status UNUSED, void *given) {
     struct process *process = given;
     if (process->has_left) return;
     EACH_STORED(it, &process->store) tell_store("FDSTOREREMOVE", it->name, -1);
@@ -133,13 +135,13 @@ void receive_stored_or_stop(struct process *process) {
         free(names[i]);
     }
     free(names);
-    need(on_exit(empty_store, process) == 0, "on_exit");
+    need(on_exit(empty_store_of_manager, process) == 0, "on_exit");
 }
 
 /* Closes a file that the manager keeps, too, and leaves errno as it is. */
 void close_stored(struct store *own, const char *kind, int number, int fd) {
     int fault = errno;
-    drop_stored(own, kind, number);
+    drop_stored_without_closing(own, kind, number);
     close(fd);
     errno = fault;
 }

@@ -135,8 +135,8 @@ void lose_and_release_link(struct protocol *protocol, struct link *link) {
     (void)print_change(protocol->core, protocol, link);
 }
 
-/* 100 ms passed; answers whether the library took that. Churn detection goes by what it tells of the ports then, and what failed of a link is
- * forgotten after a while. */
+/* 100 ms passed; answers whether the library took that. Churn detection goes by what it tells of the ports then. The partner of a port that
+ * runs on defaults is forgotten, and so is, after a while, what failed of a link. */
 bool pass_system_tick(struct core *core, struct ports *ports) {
     bool taken = is_done(core, niw_tick(&core->system), "niw_tick");
     if (!taken) return false;
@@ -145,6 +145,7 @@ bool pass_system_tick(struct core *core, struct ports *ports) {
         const struct niw_view *view = &link->view;
         uint32_t status = niw_churn_tick(&link->churn, view->up, view->state, view->partner_state);
         taken = is_done(core, status, "niw_churn_tick") && taken;
+        if (view->receive_state == NIW_RECEIVE_DEFAULTED) forget_partner(core->settings, link);
         link->tried = false;
         if (link->trouble_ticks == 0 || --link->trouble_ticks > 0) continue;
         link->trouble = 0;
@@ -179,9 +180,9 @@ bool end_is_told(const struct ports *ports) {
 }
 
 /* Says of each port that the daemon has ended, and frees the system; answers whether the library never refused a call. */
-bool end_bundle_and_system(struct protocol *protocol) {
-    EACH_LINK(link, protocol->ports)
-        if (link->used) (void)say(protocol->core->printer, LOG_NOTICE | ABOUT_END, "port %u %s: ended", link->settings.number, link->name);
-    enter_down_state_and_tell_all(protocol->core, &protocol->bundle, protocol->control);
-    return is_done(protocol->core, niw_free(&protocol->core->system), "niw_free") && !protocol->core->broken;
+bool end_bundle_and_system(struct core *core, struct bundle *own, const struct ports *ports, const struct control *control) {
+    EACH_LINK_AS_IS(link, ports)
+        if (link->used) (void)say(core->printer, LOG_NOTICE | ABOUT_END, "port %u %s: ended", link->settings.number, link->name);
+    enter_down_state_run_hook_and_tell_all(core, own, control);
+    return is_done(core, niw_free(&core->system), "niw_free") && !core->broken;
 }

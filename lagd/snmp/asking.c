@@ -28,7 +28,6 @@ static struct daemon {
     bool whole;
 } daemons[MOST_DAEMONS];
 static unsigned count;
-static size_t room_of_all;
 
 /* The paths of those that were too slow last time. */
 static char slow[MOST_DAEMONS][SOCKET_PATH_ROOM];
@@ -54,21 +53,26 @@ static void leave(struct daemon *daemon) {
     daemon->fd = -1;
 }
 
+static size_t room_of_all_daemons(void) {
+    size_t all = 0;
+    for (unsigned i = 0; i < count; i++) all += daemons[i].room;
+    return all;
+}
+
 /* Makes room for more of an answer; answers whether there is some. */
 static bool make_room(struct daemon *daemon) {
     char *grown;
     if (daemon->room - daemon->length >= READ_AT_ONCE) return true;
-    if (daemon->room + READ_AT_ONCE > MOST_ANSWERED || room_of_all + READ_AT_ONCE > MOST_OF_ALL) return false;
+    if (daemon->room + READ_AT_ONCE > MOST_ANSWERED || room_of_all_daemons() + READ_AT_ONCE > MOST_OF_ALL) return false;
     grown = realloc(daemon->text, daemon->room + READ_AT_ONCE);
     if (!grown) return false;
     daemon->text = grown;
     daemon->room += READ_AT_ONCE;
-    room_of_all += READ_AT_ONCE;
     return true;
 }
 
 /* Takes what came of an answer. */
-static void take(struct daemon *daemon) {
+static void take_part_or_complain(struct daemon *daemon) {
     ssize_t got;
     if (!make_room(daemon)) {
         complain("%s: it answers too much", daemon->path);
@@ -95,18 +99,18 @@ static unsigned waiting(struct pollfd waits[static MOST_DAEMONS], uint64_t began
 }
 
 /* Takes the answers, until all are whole or time is over. */
-static void take_answers(void) {
+static void take_answers_or_complain(void) {
     static struct pollfd waits[MOST_DAEMONS];
     uint64_t began = milliseconds(), until, time;
     while (waiting(waits, began, &until) > 0 && (time = milliseconds()) < until) {
         if (poll(waits, count, (int)(until - time)) < 0 && errno != EINTR) break;
         for (unsigned i = 0; i < count; i++)
-            if (waits[i].revents) take(&daemons[i]);
+            if (waits[i].revents) take_part_or_complain(&daemons[i]);
     }
 }
 
 /* Remembers who was too slow; who was not so before has a line. */
-static void note_slow(void) {
+static void note_slow_and_complain(void) {
     unsigned noted = 0;
     static bool were[MOST_DAEMONS];
     for (unsigned i = 0; i < count; i++) were[i] = was_slow(daemons[i].path);
@@ -114,26 +118,25 @@ static void note_slow(void) {
         if (daemons[i].fd < 0) continue;
         if (!were[i]) complain("%s: its daemon does not answer in time", daemons[i].path);
         memcpy(slow[noted++], daemons[i].path, sizeof slow[0]);
-        leave(&daemons[i]);
     }
     slow_count = noted;
 }
 
 /* Asks the daemons whose sockets are in a folder, and in the folders in it, and has each whole answer taken. */
-void ask_all(const char *folder, take_answer *take_whole, struct told *told) {
+void ask_all_daemons_or_complain(const char *folder, take_answer *take_whole, struct told *told) {
     static struct found found;
     free(found.denied);
     found.denied = NULL;
     found.count = 0;
-    room_of_all = 0;
     find_sockets(&found, folder, true);
     for (count = 0; count < found.count; count++) {
         daemons[count] = (struct daemon){.path = found.sockets[count].path, .fd = -1};
         ask(&daemons[count]);
     }
-    take_answers();
-    note_slow();
+    take_answers_or_complain();
+    note_slow_and_complain();
     for (unsigned i = 0; i < count; i++) {
+        leave(&daemons[i]);
         if (daemons[i].whole && daemons[i].length > 0) take_whole(told, daemons[i].path, daemons[i].text, daemons[i].length);
         free(daemons[i].text);
         daemons[i].text = NULL;

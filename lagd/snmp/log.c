@@ -9,8 +9,8 @@
 #define MOST_LINES 10
 #define WHILE 60000
 
-/* Whether one more line may be written. */
-static bool may_tell(void) {
+/* Counts a line; answers whether it may be written. */
+static bool spend_line(void) {
     static uint64_t began;
     static unsigned lines;
     uint64_t time = milliseconds();
@@ -25,7 +25,7 @@ static bool may_tell(void) {
 void complain(const char *format, ...) {
     char raw[1024];
     va_list given;
-    if (!may_tell()) return;
+    if (!spend_line()) return;
     va_start(given, format);
     (void)vsnprintf(raw, sizeof raw, format, given);
     va_end(given);

@@ -50,14 +50,14 @@ static void end(int signal) {
     ended = 1;
 }
 
-static void look(unsigned number, void *nothing) {
+static void refresh_at_alarm(unsigned number, void *nothing) {
     (void)number;
     (void)nothing;
-    refresh();
+    refresh_from_daemons_or_complain();
 }
 
 /* Reads the command line; answers the status with which the program ends at once, or -1. */
-static int read_words(int count, char **words) {
+static int set_options_or_print(int count, char **words) {
     static const struct option options[] = {{"agentx", required_argument, NULL, 'x'}, {"folder", required_argument, NULL, 'f'},
         {"help", no_argument, NULL, 'h'}, {"version", no_argument, NULL, 'V'}, {0}};
     for (int letter; (letter = getopt_long(count, words, "x:f:hV", options, NULL)) != -1;) {
@@ -73,7 +73,7 @@ static int read_words(int count, char **words) {
 }
 
 /* Makes it a subagent, which reads and keeps no file: no names of objects either. */
-static void set_up(void) {
+static void set_up_net_snmp_and_environment(void) {
     (void)setenv("MIBS", "", 1);
     netsnmp_ds_set_boolean(NETSNMP_DS_APPLICATION_ID, NETSNMP_DS_AGENT_ROLE, 1);
     netsnmp_ds_set_boolean(NETSNMP_DS_LIBRARY_ID, NETSNMP_DS_LIB_DONT_READ_CONFIGS, 1);
@@ -84,18 +84,18 @@ static void set_up(void) {
 int main(int count, char **words) {
     struct sigaction on_end = {.sa_handler = end};
     int status;
-    set_up();
-    status = read_words(count, words);
+    set_up_net_snmp_and_environment();
+    status = set_options_or_print(count, words);
     if (status >= 0) return status;
     if (init_agent("lagd-snmp") != 0) return 1;
     netsnmp_ds_set_int(NETSNMP_DS_APPLICATION_ID, NETSNMP_DS_AGENT_AGENTX_PING_INTERVAL, EVERY);
-    register_tables();
+    register_all_or_stop();
     init_snmp("lagd-snmp");
     (void)sigaction(SIGTERM, &on_end, NULL);
     (void)sigaction(SIGINT, &on_end, NULL);
     (void)signal(SIGPIPE, SIG_IGN); /* snmpd may go at any time */
-    (void)snmp_alarm_register(EVERY, SA_REPEAT, look, NULL);
-    refresh();
+    (void)snmp_alarm_register(EVERY, SA_REPEAT, refresh_at_alarm, NULL);
+    refresh_from_daemons_or_complain();
     while (!ended) (void)agent_check_and_process(1);
     snmp_shutdown("lagd-snmp");
     return 0;

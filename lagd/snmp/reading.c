@@ -134,20 +134,20 @@ static bool is_name(const char *text, char name[static IFNAMSIZ]) {
 }
 
 /* Asks the kernel for index and MAC address of a device; one that is gone has no index. */
-static void look_at_device(struct bundle *bundle, const char *name) {
+static void look_at_device(const char *name, uint32_t *index, uint8_t address[static 6]) {
     struct ifreq asked = {0};
     int fd = socket(AF_INET, SOCK_DGRAM | SOCK_CLOEXEC, 0);
     if (fd < 0) fd = socket(AF_UNIX, SOCK_DGRAM | SOCK_CLOEXEC, 0);
     memcpy(asked.ifr_name, name, IFNAMSIZ);
     if (fd >= 0 && ioctl(fd, SIOCGIFHWADDR, &asked) == 0) {
-        memcpy(bundle->address, asked.ifr_hwaddr.sa_data, sizeof bundle->address);
-        if (ioctl(fd, SIOCGIFINDEX, &asked) == 0) bundle->device = (uint32_t)asked.ifr_ifindex;
+        memcpy(address, asked.ifr_hwaddr.sa_data, 6);
+        if (ioctl(fd, SIOCGIFINDEX, &asked) == 0) *index = (uint32_t)asked.ifr_ifindex;
     }
     if (fd >= 0) close(fd);
 }
 
-/* Reads what is told of the bundle itself. */
-static bool is_bundle(const json_t *root, struct bundle *bundle) {
+/* Reads what is told of the bundle itself, and looks at its device. */
+static bool is_bundle_and_look_at_device(const json_t *root, struct bundle *bundle) {
     const json_t *carry = json_object_get(root, "carry");
     const char *device = json_string_value(json_object_get(carry, "device"));
     char name[IFNAMSIZ] = {0};
@@ -158,7 +158,7 @@ static bool is_bundle(const json_t *root, struct bundle *bundle) {
         return false;
     if (!carry) return true;
     if (!device || !is_name(device, name)) return false;
-    look_at_device(bundle, name);
+    look_at_device(name, &bundle->device, bundle->address);
     return true;
 }
 
@@ -188,7 +188,7 @@ static bool list_ports(struct aggregator *to, const struct reading *readings, si
 }
 
 /* Adds the row of the device: key and partner are those of its ports, which have the same. */
-static void add_aggregator(struct told *told, const struct bundle *bundle, const struct reading *readings, size_t count) {
+static void add_aggregator(struct rows *aggregators, const struct bundle *bundle, const struct reading *readings, size_t count) {
     struct aggregator row;
     bool first = true;
     memset(&row, 0, sizeof row);
@@ -210,11 +210,11 @@ static void add_aggregator(struct told *told, const struct bundle *bundle, const
         memcpy(row.partner.system, port->partner.system, sizeof row.partner.system);
     }
     (void)list_ports(&row, readings, count);
-    if (!add_row(&told->aggregators, &row)) free(row.list);
+    if (!add_row(aggregators, &row)) free(row.list);
 }
 
 /* Adds the rows of a bundle. */
-static void add_bundle(struct told *told, const struct bundle *bundle, struct reading *readings, size_t count) {
+static void add_bundle_or_complain(struct told *told, const struct bundle *bundle, struct reading *readings, size_t count) {
     uint32_t aggregator = aggregator_of_device(bundle, readings, count);
     for (size_t i = 0; i < count; i++) {
         struct port *port = &readings[i].port;
@@ -224,31 +224,31 @@ static void add_bundle(struct told *told, const struct bundle *bundle, struct re
         if (readings[i].present && !add_row(&told->ports, port))
             complain("%s: another daemon has its interface %u", bundle->path, port->index);
     }
-    if (bundle->device) add_aggregator(told, bundle, readings, count);
+    if (bundle->device) add_aggregator(&told->aggregators, bundle, readings, count);
 }
 
 /* Reads the ports of a bundle, and adds its rows only if all can be read. */
-static bool read_bundle(struct told *told, const json_t *root, const char *path) {
+static bool read_bundle_look_at_device_or_complain(struct told *told, const json_t *root, const char *path) {
     struct bundle bundle = {.path = path};
     struct reading *readings = NULL;
     size_t count, read = 0;
-    if (!is_bundle(root, &bundle)) return false;
+    if (!is_bundle_and_look_at_device(root, &bundle)) return false;
     count = json_array_size(bundle.ports);
     readings = calloc(count + 1, sizeof *readings);
     while (readings && read < count && is_port(json_array_get(bundle.ports, read), &bundle, &readings[read])) read++;
-    if (readings && read == count) add_bundle(told, &bundle, readings, count);
+    if (readings && read == count) add_bundle_or_complain(told, &bundle, readings, count);
     free(readings);
     return readings && read == count;
 }
 
 /* Adds what an answer says. A refusal is told; what is no status is left out. */
-void read_status(struct told *told, const char *path, const char *text, size_t length) {
+void read_status_look_at_device_or_complain(struct told *told, const char *path, const char *text, size_t length) {
     json_error_t why;
     json_t *root = json_loadb(text, length, JSON_REJECT_DUPLICATES, &why);
     const char *end = memchr(text, '\n', length);
     if (!root && end && end - text < LONGEST_REFUSAL && strncmp(text, REFUSAL, strlen(REFUSAL)) == 0)
         complain("%s: %.*s", path, (int)(end - text), text);
-    else if (!root || !read_bundle(told, root, path))
+    else if (!root || !read_bundle_look_at_device_or_complain(told, root, path))
         complain("%s: no status of lagd: %s", path, root ? "a field is missing or wrong" : why.text);
     json_decref(root);
 }

@@ -33,14 +33,14 @@ unsigned long changed_at(void) {
 }
 
 /* Asks the daemons, if what they told is too old. */
-void refresh(void) {
+void refresh_from_daemons_or_complain(void) {
     struct told next = {0};
     unsigned long before = up;
     up = netsnmp_get_agent_uptime();
     if (up + JITTER < before) changed = 0;
     if (asked_at && milliseconds() - asked_at < OLDEST) return;
     forget(&next);
-    ask_all(status_folder, read_status, &next);
+    ask_all_daemons_or_complain(status_folder, read_status_look_at_device_or_complain, &next);
     if (!is_same(&now, &next)) changed = up;
     forget(&now);
     now = next;

@@ -55,10 +55,10 @@ void complain(const char *format, ...) __attribute__((format(printf, 1, 2)));
 
 /* asking.c */
 typedef void take_answer(struct told *told, const char *path, const char *text, size_t length);
-void ask_all(const char *folder, take_answer *take, struct told *told);
+void ask_all_daemons_or_complain(const char *folder, take_answer *take, struct told *told);
 
 /* reading.c */
-void read_status(struct told *told, const char *path, const char *text, size_t length);
+void read_status_look_at_device_or_complain(struct told *told, const char *path, const char *text, size_t length);
 
 /* rows.c */
 bool add_row(struct rows *rows, const void *row);
@@ -69,12 +69,12 @@ bool is_same(const struct told *one, const struct told *other);
 
 /* refreshing.c */
 uint64_t milliseconds(void);
-void refresh(void);
+void refresh_from_daemons_or_complain(void);
 extern const char *status_folder;
 extern struct told now;
 unsigned long changed_at(void);
 
 /* tables.c */
-void register_tables(void);
+void register_all_or_stop(void);
 
 #endif

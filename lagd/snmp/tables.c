@@ -140,12 +140,12 @@ static void get_next(netsnmp_request_info *request, const netsnmp_table_request_
     }
 }
 
-/* Answers what is asked of a table. */
-static int answer(netsnmp_mib_handler *handler, netsnmp_handler_registration *registration, netsnmp_agent_request_info *asked,
+/* Answers what is asked of a table, of what the daemons tell now. */
+static int refresh_and_answer_table(netsnmp_mib_handler *handler, netsnmp_handler_registration *registration, netsnmp_agent_request_info *asked,
     netsnmp_request_info *requests) {
     const struct table *table = handler->myvoid;
     (void)registration;
-    refresh();
+    refresh_from_daemons_or_complain();
     for (netsnmp_request_info *request = requests; request; request = request->next) {
         const netsnmp_table_request_info *place = netsnmp_extract_table_info(request);
         if (request->processed || !place) continue;
@@ -155,17 +155,17 @@ static int answer(netsnmp_mib_handler *handler, netsnmp_handler_registration *re
     return SNMP_ERR_NOERROR;
 }
 
-static int answer_last_change(netsnmp_mib_handler *handler, netsnmp_handler_registration *registration, netsnmp_agent_request_info *asked,
+static int refresh_and_answer_last_change(netsnmp_mib_handler *handler, netsnmp_handler_registration *registration, netsnmp_agent_request_info *asked,
     netsnmp_request_info *requests) {
     (void)handler;
     (void)registration;
-    refresh();
+    refresh_from_daemons_or_complain();
     if (asked->mode == MODE_GET) (void)snmp_set_var_typed_integer(requests->requestvb, ASN_TIMETICKS, (long)changed_at());
     return SNMP_ERR_NOERROR;
 }
 
-static void register_table(const struct table *table) {
-    netsnmp_mib_handler *handler = netsnmp_create_handler(table->name, answer);
+static void register_table_or_stop(const struct table *table) {
+    netsnmp_mib_handler *handler = netsnmp_create_handler(table->name, refresh_and_answer_table);
     netsnmp_handler_registration *registration;
     netsnmp_table_registration_info *info = SNMP_MALLOC_TYPEDEF(netsnmp_table_registration_info);
     if (!handler || !info) abort();
@@ -178,9 +178,9 @@ static void register_table(const struct table *table) {
     if (!registration || netsnmp_register_table(registration, info) != MIB_REGISTERED_OK) abort();
 }
 
-void register_tables(void) {
-    netsnmp_handler_registration *scalar = netsnmp_create_handler_registration("dot3adTablesLastChanged", answer_last_change, LAST_CHANGED,
-        sizeof LAST_CHANGED / sizeof *LAST_CHANGED, HANDLER_CAN_RONLY);
-    for (size_t i = 0; i < sizeof TABLES / sizeof *TABLES; i++) register_table(&TABLES[i]);
+void register_all_or_stop(void) {
+    netsnmp_handler_registration *scalar = netsnmp_create_handler_registration("dot3adTablesLastChanged", refresh_and_answer_last_change,
+        LAST_CHANGED, sizeof LAST_CHANGED / sizeof *LAST_CHANGED, HANDLER_CAN_RONLY);
+    for (size_t i = 0; i < sizeof TABLES / sizeof *TABLES; i++) register_table_or_stop(&TABLES[i]);
     if (!scalar || netsnmp_register_read_only_scalar(scalar) != MIB_REGISTERED_OK) abort();
 }

@@ -16,17 +16,18 @@ static void hold_frame(struct carry *carry, struct held *held, uint16_t number, 
 /* What becomes of the next frame of a conversation: it waits, there is no port for it, or it goes on the port of the conversation. */
 enum offered { WAITS, LOST, GOES };
 
-static enum offered offer_and_write_port(struct carry *carry, struct conversation *conversation, uint16_t number) {
+static enum offered offer_and_write_port(struct core *core, struct state *state, const struct carry *carry, struct conversation *conversation,
+    uint16_t number) {
     if (carry->time < conversation->fast.not_before) return WAITS;
-    struct niw_number answer = niw_offer_conversation_in_active_aggregator(&carry->core->system, carry->active, number);
+    struct niw_number answer = niw_offer_conversation_in_active_aggregator(&core->system, carry->active, number);
     if (answer.status == NIW_HELD) return WAITS;
     if (answer.status == NIW_NONE_DISTRIBUTING) return LOST;
-    if (!is_done(carry->core, answer.status, "niw_offer_conversation_in_active_aggregator")) return WAITS;
+    if (!is_done(core, answer.status, "niw_offer_conversation_in_active_aggregator")) return WAITS;
     conversation->home = carry->active;
     conversation->since = 0;
     if (awaits_collecting(carry, (uint16_t)answer.number)) return WAITS;
     conversation->port = (uint16_t)answer.number;
-    write_port_of_conversation(carry->state, number, conversation->port);
+    write_port_of_conversation(state, number, conversation->port);
     return GOES;
 }
 
@@ -42,7 +43,7 @@ void accept_from_host(struct tap_plane *tap, uint8_t *packet, size_t length) {
     uint64_t number;
     tap->carry->counts[FROM_HOST]++;
     if (length < head_octets() + ETH_HLEN
-        || !is_told(tap->core, conversation_of(tap->protocol, frame, length - head_octets()), "niw_conversation", &number)) {
+        || !is_told(tap->core, conversation_of(tap->core, frame, length - head_octets()), "niw_conversation", &number)) {
         tap->carry->counts[UNFIT]++;
         return;
     }
@@ -56,7 +57,8 @@ void accept_from_host(struct tap_plane *tap, uint8_t *packet, size_t length) {
     }
     if (tap->carry->active != 0) {
         conversation->used = true;
-        offered = none_held(tap->core, &tap->held, (uint16_t)number) ? offer_and_write_port(tap->carry, conversation, (uint16_t)number) : WAITS;
+        offered = none_held(tap->core, &tap->held, (uint16_t)number)
+            ? offer_and_write_port(tap->core, tap->carry->state, tap->carry, conversation, (uint16_t)number) : WAITS;
     }
     if (offered == WAITS) hold_frame(tap->carry, &tap->held, (uint16_t)number, packet, length);
     if (offered == GOES) send_by_port(tap, conversation, packet, length);
@@ -64,7 +66,7 @@ void accept_from_host(struct tap_plane *tap, uint8_t *packet, size_t length) {
 }
 
 /* How many frames of the peer came in an aggregator that was active, of those that come here, or by the kernel. */
-uint64_t frames_handed_up(struct plane *plane, bool counts_now) {
+uint64_t sum_frames_heard_and_follow_peer(struct plane *plane, bool counts_now) {
     struct carry *carry = plane->carry;
     if (counts_now) CALL(plane->passing->count, plane->tap);
     return carry->counts[HANDED_UP] + carry->counts[HOST_UNTAKEN];
@@ -76,12 +78,12 @@ void hand_up_or_follow_peer_and_tell(struct tap_plane *tap, uint32_t aggregator,
         return;
     }
     tap->carry->counts[OTHER_AGGREGATOR]++;
-    suspect_or_follow_aggregator(tap->carry, aggregator);
+    doubt_active_or_follow_peer(tap->carry, aggregator);
 }
 
 /* Offers the oldest frame of a conversation again, of which one waits; answers whether it left. */
 static bool send_or_drop_oldest(struct tap_plane *tap, struct conversation *conversation, uint16_t number) {
-    enum offered offered = tap->carry->active == 0 ? WAITS : offer_and_write_port(tap->carry, conversation, number);
+    enum offered offered = tap->carry->active == 0 ? WAITS : offer_and_write_port(tap->core, tap->carry->state, tap->carry, conversation, number);
     size_t length;
     if (offered == WAITS) return false;
     conversation->fast.touched = true;
@@ -117,6 +119,7 @@ static void send_held_and_pass_on(struct tap_plane *tap) {
 void set_speed_and_carrier(struct plane *plane) {
     struct tap_plane *tap = plane->tap;
     set_speed(tap->device, sum_speeds(tap->carry, tap->members));
+    if (tap->carry->active == 0 && tap->device->carrier) CALL(plane->passing->open_host, tap, false);
     set_carrier(tap->device, tap->carry->active != 0);
 }
 
@@ -134,13 +137,13 @@ void choose_move_and_send(struct plane *plane) {
     tap->carry->to_balance = false;
 }
 
-void pass_tick_of_frames(struct plane *plane) {
+void pass_data_tick_and_restart_ports(struct plane *plane) {
     struct tap_plane *tap = plane->tap;
-    begin_carry_tick_and_announce(tap->carry);
+    begin_carry_tick_and_announce(tap->core->printer, tap->device, &tap->carry->time, &tap->carry->announce);
     CALL(plane->passing->tick, tap);
     note_heard(tap->carry);
     pass_flight_tick(tap);
     count_full_sockets(tap->members, tap->ports->count);
     CALL(plane->queueing->watch, tap);
-    end_carry_tick_and_wake_ports(tap->carry);
+    end_carry_tick_and_restart_ports(tap->carry);
 }

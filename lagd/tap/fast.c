@@ -27,23 +27,23 @@ static int load_or_stop(const struct settings *settings, const char *name, const
 }
 
 /* Has a program run at the TAP device; answers what keeps it there. */
-static int run_program_or_stop(struct process *process, int index, const char *name, const struct fast_maps *maps, bool egress) {
-    CLOSED_FILE int program = load_or_stop(process->settings, name, maps);
-    int opened = attach_stored(&process->store, name, program, index, egress);
+static int run_program_or_stop(struct store *store, const struct settings *settings, int index, const char *name, const struct fast_maps *maps,
+    bool egress) {
+    CLOSED_FILE int program = load_or_stop(settings, name, maps);
+    int opened = attach_stored(store, name, program, index, egress);
     if (opened < 0) stop(REFUSED, "fast: no program of an interface, which Linux has from 6.6 on", strerror(-opened));
     return opened;
 }
 
-/* A table that the programs share with the daemon: that of the last daemon, where that left one for this device, or a new one. */
-static void *open_map_or_stop(struct process *process, int index, int number, uint32_t size, uint32_t count, int *map) {
-    int left = process->inherited->tap;
-    *map = claim_stored(&process->store, "map", number);
-    void *at = *map >= 0 && left != 0 && left == index ? map_again(size, count, *map) : NULL;
+/* A table that the programs share with the daemon: that of the last daemon, where that left one and its device goes on, or a new one. */
+static void *open_map_or_stop(struct store *store, bool goes_on, int number, uint32_t size, uint32_t count, int *map) {
+    *map = claim_stored(store, "map", number);
+    void *at = *map >= 0 && goes_on ? map_again(size, count, *map) : NULL;
     if (at) return at;
-    if (*map >= 0) close_stored(&process->store, "map", number, *map);
+    if (*map >= 0) close_stored(store, "map", number, *map);
     at = make_map(size, count, map);
     need(at != NULL, "fast: no table of the kernel");
-    put_stored(&process->store, "map", number, *map);
+    put_stored(store, "map", number, *map);
     return at;
 }
 
@@ -67,16 +67,17 @@ static void start_fast_or_stop(struct tap_plane *tap) {
     struct fast_programs *own = &tap->fast;
     struct fast_maps maps;
     int device = tap->device->index;
+    bool goes_on = tap->process->inherited->tap != 0 && tap->process->inherited->tap == device;
     need(wait_for_programs(), "fast: the kernel cannot wait for its programs (membarrier)");
-    own->rows = open_map_or_stop(tap->process, device, 0, sizeof *own->rows, CONVERSATIONS, &maps.rows);
-    own->entries = open_map_or_stop(tap->process, device, 1, sizeof *own->entries, NIW_MOST_PORTS, &maps.members);
-    own->host = open_map_or_stop(tap->process, device, 2, sizeof *own->host, 1, &maps.host);
-    own->places = open_map_or_stop(tap->process, device, 3, sizeof *own->places, PLACES, &maps.places);
+    own->rows = open_map_or_stop(&tap->process->store, goes_on, 0, sizeof *own->rows, CONVERSATIONS, &maps.rows);
+    own->entries = open_map_or_stop(&tap->process->store, goes_on, 1, sizeof *own->entries, NIW_MOST_PORTS, &maps.members);
+    own->host = open_map_or_stop(&tap->process->store, goes_on, 2, sizeof *own->host, 1, &maps.host);
+    own->places = open_map_or_stop(&tap->process->store, goes_on, 3, sizeof *own->places, PLACES, &maps.places);
     begin_tables(own, tap->ports->count);
     if (own->host->mac == 0) memcpy(&own->host->mac, tap->settings->config.mac, ETH_ALEN);
     own->receiver = load_or_stop(tap->settings, "receiver", &maps);
-    own->handover = run_program_or_stop(tap->process, device, "handover", &maps, false);
-    own->sender = run_program_or_stop(tap->process, device, "sender", &maps, true);
+    own->handover = run_program_or_stop(&tap->process->store, tap->settings, device, "handover", &maps, false);
+    own->sender = run_program_or_stop(&tap->process->store, tap->settings, device, "sender", &maps, true);
 }
 
 /* The kernel passes nothing on any more by this row. */
@@ -167,7 +168,7 @@ static void count_handed_up_and_follow_peer(struct carry *carry, struct fast_mem
     counts[UNCOLLECTED] += uncollected;
     counts[WRONG_LENGTH] += wrong_length;
     carry->counts[HANDED_UP] += passed_up;
-    if (uncollected > 0) suspect_or_follow_aggregator(carry, aggregator);
+    if (uncollected > 0) doubt_active_or_follow_peer(carry, aggregator);
 }
 
 static void count_fast_frames_and_follow_peer(struct tap_plane *tap) {
@@ -182,11 +183,11 @@ static void count_fast_frames_and_follow_peer(struct tap_plane *tap) {
 }
 
 /* Whether the kernel may pass a conversation on at its port. */
-static bool may_pass(struct tap_plane *tap, const struct conversation *conversation) {
+static bool may_pass(struct core *core, const struct tap_plane *tap, const struct conversation *conversation) {
     uint16_t port = conversation->port;
     struct niw_assignment state;
     return tap->fast.sender >= 0 && !tap->fast.queue_holds && tap->carry->active != 0 && conversation->home == tap->carry->active
-        && is_fast(&tap->members[port - 1]) && ask_state(tap->core, conversation->home, number_in(tap->carry, conversation), &state)
+        && is_fast(&tap->members[port - 1]) && ask_state(core, conversation->home, number_in(tap->carry, conversation), &state)
         && state.what == NIW_CONVERSATION_ON && state.port == port;
 }
 
@@ -226,7 +227,8 @@ static void resume_fast_or_end(struct tap_plane *tap) {
         struct fast_row *row = row_of(tap, conversation);
         uint32_t member = (uint32_t)word_of(row);
         if (member == 0) continue;
-        if (conversation->port != 0 && member == (uint32_t)tap->ports->links[conversation->port - 1].index && may_pass(tap, conversation)) {
+        if (conversation->port != 0 && member == (uint32_t)tap->ports->links[conversation->port - 1].index
+            && may_pass(tap->core, tap, conversation)) {
             conversation->fast.port = conversation->port;
         } else {
             drop_row_member(row);
@@ -284,11 +286,11 @@ static void set_collecting(struct tap_plane *tap) {
 }
 
 /* Lets the kernel pass on a conversation of which nothing waits here, if nothing is on its way here. */
-static void name_member(struct fast_row *row, struct conversation *conversation, int index) {
+static void name_member(struct fast_row *row, struct fast *fast, uint16_t port, int index) {
     uint64_t none = 0;
     if (__atomic_load_n(&row->opaque, __ATOMIC_SEQ_CST) == 0
         && __atomic_compare_exchange_n(&row->word, &none, (uint32_t)index, false, __ATOMIC_SEQ_CST, __ATOMIC_SEQ_CST))
-        conversation->fast.port = conversation->port;
+        fast->port = port;
 }
 
 /* After all that was put was sent: what was taken counts no more, and the kernel gets what it may pass on. */
@@ -300,21 +302,21 @@ static void pass_on(struct tap_plane *tap) {
         subtract_segments(row, take_count(&row->overflowed) + conversation->fast.taken, &conversation->fast.suspected);
         conversation->fast.taken = 0;
         if (conversation->port != 0 && conversation->fast.port == 0
-            && none_held(tap->core, &tap->held, number_in(tap->carry, conversation)) && may_pass(tap, conversation))
-            name_member(row, conversation, tap->ports->links[conversation->port - 1].index);
+            && none_held(tap->core, &tap->held, number_in(tap->carry, conversation)) && may_pass(tap->core, tap, conversation))
+            name_member(row, &conversation->fast, conversation->port, tap->ports->links[conversation->port - 1].index);
     }
 }
 
 /* Counts no more what was lost on its way to the daemon: since it was suspected, no frame of it came and none was left (programs only ever
  * raise the count of a row without a member), all programs ended, and the TAP device had nothing more. */
-static void confirm_loss(struct fast_row *row, struct conversation *conversation) {
-    uint64_t word = conversation->fast.suspected_word, overflowed = __atomic_load_n(&row->overflowed, __ATOMIC_SEQ_CST);
-    conversation->fast.suspected = false;
-    if (__atomic_load_n(&row->opaque, __ATOMIC_SEQ_CST) != conversation->fast.suspected_opaque) return;
+static void confirm_loss(struct fast_row *row, struct fast *fast) {
+    uint64_t word = fast->suspected_word, overflowed = __atomic_load_n(&row->overflowed, __ATOMIC_SEQ_CST);
+    fast->suspected = false;
+    if (__atomic_load_n(&row->opaque, __ATOMIC_SEQ_CST) != fast->suspected_opaque) return;
     if (!__atomic_compare_exchange_n(&row->word, &word, 0, false, __ATOMIC_SEQ_CST, __ATOMIC_SEQ_CST)) return;
     (void)__atomic_sub_fetch(&row->overflowed, overflowed, __ATOMIC_SEQ_CST);
-    (void)__atomic_sub_fetch(&row->opaque, conversation->fast.suspected_opaque, __ATOMIC_SEQ_CST);
-    conversation->fast.touched = true;
+    (void)__atomic_sub_fetch(&row->opaque, fast->suspected_opaque, __ATOMIC_SEQ_CST);
+    fast->touched = true;
 }
 
 /* So many packets were read of the TAP device, in a batch that had room for more if it is drained: nothing is on its way then but what a
@@ -328,16 +330,16 @@ static void subtract_read_and_lost(struct tap_plane *tap, unsigned packets, bool
     if (drained && (left > MOST_BETWEEN || left < 0)) (void)__atomic_sub_fetch(&own->host->left, left, __ATOMIC_SEQ_CST);
     if (!drained || own->queue_holds) return;
     EACH_CONVERSATION(conversation, tap->carry)
-        if (conversation->fast.suspected && conversation->fast.taken == 0) confirm_loss(row_of(tap, conversation), conversation);
+        if (conversation->fast.suspected && conversation->fast.taken == 0) confirm_loss(row_of(tap, conversation), &conversation->fast);
 }
 
 /* Suspects a row with frames that do not come: none came since the last tick. */
-static bool suspect_row(const struct fast_row *row, struct conversation *conversation) {
+static bool suspect_row(const struct fast_row *row, bool used, struct fast *fast) {
     uint64_t word = word_of(row), opaque = __atomic_load_n(&row->opaque, __ATOMIC_SEQ_CST);
-    if (conversation->fast.port > 0 || conversation->used || conversation->fast.suspected || (word == 0 && opaque == 0)) return false;
-    conversation->fast.suspected = true;
-    conversation->fast.suspected_word = word;
-    conversation->fast.suspected_opaque = opaque;
+    if (fast->port > 0 || used || fast->suspected || (word == 0 && opaque == 0)) return false;
+    fast->suspected = true;
+    fast->suspected_word = word;
+    fast->suspected_opaque = opaque;
     return true;
 }
 
@@ -359,7 +361,7 @@ static void pass_fast_tick_or_end(struct tap_plane *tap) {
     EACH_CONVERSATION(conversation, tap->carry) {
         struct fast_row *row = row_of(tap, conversation);
         subtract_segments(row, take_count(&row->overflowed), &conversation->fast.suspected);
-        any = suspect_row(row, conversation) || any;
+        any = suspect_row(row, conversation->used, &conversation->fast) || any;
     }
     if (any) wait_or_end(tap);
 }

@@ -143,10 +143,10 @@ static bool is_card(int index) {
 }
 
 /* What a queue is to have in the place of what it has now, for which `mask` is room: NULL where that may stay. */
-static const char *wanted_line(const struct link *link, enum setting setting, unsigned queue, const char *now, char mask[static 16]) {
+static const char *wanted_line(uint16_t port, bool is_on_card, enum setting setting, unsigned queue, const char *now, char mask[static 16]) {
     if (setting != TAKEN_BY) return has_no_processor(now) ? NULL : "0";
-    if (has_one_processor(now) || (is_card(link->index) && has_no_processor(now))) return NULL;
-    mask_of_processor(link->settings.number - 1u + queue, mask);
+    if (has_one_processor(now) || (is_on_card && has_no_processor(now))) return NULL;
+    mask_of_processor(port - 1u + queue, mask);
     return mask;
 }
 
@@ -164,13 +164,13 @@ static bool is_known(int folder, const struct link *link, const char *wanted) {
  * interface, as XPS for one queue, is off. */
 static bool change_or_keep(int folder, const struct link *link, bool lost, FILE *next) {
     char name[NAME_OCTETS], now[PROCESSORS_ROOM], mask[16];
-    bool done = true;
+    bool is_on_card = is_card(link->index), done = true;
     for (enum setting setting = 0; setting < SETTINGS; setting++) {
         unsigned count = count_queues(link->index, setting == TAKEN_BY ? "rx-" : "tx-");
         for (unsigned queue = lost ? 1 : 0; queue < count; queue++) {
             name_setting(setting, queue, name);
             if (!read_line(link->index, name, now)) continue;
-            const char *wanted = wanted_line(link, setting, queue, now, mask);
+            const char *wanted = wanted_line(link->settings.number, is_on_card, setting, queue, now, mask);
             if (lost ? has_no_processor(now) : wanted == NULL) continue;
             if (next) done = (is_known(folder, link, name) || fprintf(next, "%s %s\n", name, now) > 0) && done;
             else done = write_line(link->index, name, wanted) && done;
@@ -195,11 +195,11 @@ static bool close_and_rewrite_kept(int folder, const struct link *link, FILE *fi
 }
 
 /* An interface has another MAC address from now on: what its queues had stays known by that one. */
-void move_kept_queues(struct process *process, struct link *link, const uint8_t *mac) {
-    FILE *file = read_kept(process->folder, link, "queues");
+void move_kept_queues(struct printer *printer, int folder, struct link *link, const uint8_t *mac) {
+    FILE *file = read_kept(folder, link, "queues");
     memcpy(link->mac, mac, sizeof link->mac);
-    if (file && !close_and_rewrite_kept(process->folder, link, file, NOTHING_MORE))
-        warn_of_data(&process->printer, link, "nobody knows any more what its queues had", strerror(errno));
+    if (file && !close_and_rewrite_kept(folder, link, file, NOTHING_MORE))
+        warn_of_data(printer, link, "nobody knows any more what its queues had", strerror(errno));
 }
 
 /* How many queues an interface has, those that send above those that receive; 0 where the kernel does not tell of both. */
@@ -258,7 +258,7 @@ bool is_changed_by_others(uint64_t seconds, const struct link *link, const struc
     for (enum setting setting = 0; guard->spread && setting < SETTINGS; setting++) {
         unsigned queue = (unsigned)seconds % (setting == TAKEN_BY ? channels & 0xffff : channels >> 16);
         name_setting(setting, queue, name);
-        if (read_line(link->index, name, now) && wanted_line(link, setting, queue, now, mask)) return true;
+        if (read_line(link->index, name, now) && wanted_line(link->settings.number, is_card(link->index), setting, queue, now, mask)) return true;
     }
     return false;
 }
@@ -357,11 +357,11 @@ static unsigned read_channels(int index, struct ethtool_channels *channels) {
 }
 
 /* Gives an interface one queue for each direction. What the others have has to be known, so that they get it back. */
-static void reduce_to_one_queue(struct process *process, const struct link *link) {
+static void reduce_to_one_queue(struct printer *printer, int folder, const struct link *link) {
     struct ethtool_channels wanted;
     if (read_channels(link->index, &wanted) <= 1) return;
-    if (!close_and_rewrite_kept(process->folder, link, read_kept(process->folder, link, "queues"), WHAT_IS_LOST))
-        warn_of_data(&process->printer, link, "nobody knows what its queues had", strerror(errno));
+    if (!close_and_rewrite_kept(folder, link, read_kept(folder, link, "queues"), WHAT_IS_LOST))
+        warn_of_data(printer, link, "nobody knows what its queues had", strerror(errno));
     wanted.cmd = ETHTOOL_SCHANNELS;
     wanted.rx_count = wanted.tx_count = wanted.combined_count == 0;
     wanted.combined_count = wanted.combined_count > 0;
@@ -375,10 +375,11 @@ static bool has_channels(int index, const struct ethtool_channels *wanted) {
 }
 
 /* Gives an interface its queues back; answers whether it has them now. A driver that could not change them, as vmxnet3, has them still. */
-static bool restore_channels(int index, struct ethtool_channels *wanted) {
-    wanted->cmd = ETHTOOL_SCHANNELS;
+static bool restore_channels(int index, const struct ethtool_channels *wanted) {
+    struct ethtool_channels given = *wanted;
+    given.cmd = ETHTOOL_SCHANNELS;
     if (wanted->combined_count + wanted->rx_count + wanted->tx_count == 0) return true;
-    return has_channels(index, wanted) || call_driver(index, wanted) || has_channels(index, wanted);
+    return has_channels(index, wanted) || call_driver(index, &given) || has_channels(index, wanted);
 }
 
 /* Whether an interface has no queueing discipline yet: it gets one when it comes up. */
@@ -403,7 +404,8 @@ void give_fifos_and_note_order(struct printer *printer, const struct plane *plan
 /* The link comes up: the queue of its interface, if that is one of the daemon, has the length of its speed from now on. */
 void fit_queue(const struct plane *plane, const struct link *link) {
     if (!plane->wants_fifo) return;
-    fit_each_fifo(link->index, link->has_fifos ? ASK(plane->queueing->fifos_of, 1, link->index) : 1, read_speed(link->socket, link->index).megabits);
+    make_or_fit_each_fifo(link->index, link->has_fifos ? ASK(plane->queueing->fifos_of, 1, link->index) : 1,
+        read_speed(link->socket, link->index).megabits);
 }
 
 /* Has one processor take what comes at an interface; answers why the kernel may not pass it on, or NULL: a marker would overtake data. */
@@ -451,7 +453,7 @@ static unsigned gro_allowed(uint32_t answer_after, int index, const struct guard
 
 bool set_one_queue(struct tap_plane *tap, struct link *link, struct guard *guard, bool again) {
     give_fifos_and_note_order(tap->core->printer, tap->plane, link, guard);
-    if (!again) reduce_to_one_queue(tap->process, link);
+    if (!again) reduce_to_one_queue(tap->core->printer, tap->process->folder, link);
     return true;
 }
 
@@ -468,7 +470,7 @@ bool set_all_queues(struct tap_plane *tap, struct link *link, struct guard *guar
     spread_over_queues(tap->process, tap->chooser, link, guard);
     if (guard->spread && has_channels(link->index, before)) *before = (struct ethtool_channels){0};
     write_kept_member(tap->core->printer, tap->process->folder, link, &guard->before);
-    if (!guard->spread) reduce_to_one_queue(tap->process, link);
+    if (!guard->spread) reduce_to_one_queue(tap->core->printer, tap->process->folder, link);
     return true;
 }
 
@@ -488,7 +490,7 @@ static void stop_programs(struct store *store, struct fast_programs *fast, const
 }
 
 /* An interface has another queueing discipline: its programs are chosen anew. What it had before it was a member stays kept. */
-void reopen_guard(struct tap_plane *tap, struct link *link, struct guard *guard) {
+void renew_guard(struct tap_plane *tap, struct link *link, struct guard *guard) {
     stop_programs(&tap->process->store, &tap->fast, link, guard);
     (void)tap->plane->queueing->set(tap, link, guard, true);
     run_programs_and_set_gro(tap, link, guard);
@@ -515,29 +517,30 @@ void open_guard(struct tap_plane *tap, struct link *link, struct guard *guard) {
 }
 
 /* The interface is no member any more. What cannot be set back stays kept, as without CAP_NET_ADMIN. */
-void close_guard(struct process *process, struct fast_programs *fast, const struct link *link, struct guard *guard) {
+void close_guard(struct store *store, int folder, struct fast_programs *fast, const struct link *link, struct guard *guard) {
     struct kept *before = &guard->before;
-    stop_programs(&process->store, fast, link, guard);
-    stop_spreading(&process->store, link, guard);
+    stop_programs(store, fast, link, guard);
+    stop_spreading(store, link, guard);
     bool done = restore_channels(link->index, &before->queues);
-    restore_queue_settings(process->folder, link, done);
+    restore_queue_settings(folder, link, done);
     if (before->joins != 0) set_gro_and_lro(link->index, before->joins);
     if (before->joins != 0) done = (before->joins & ~read_gro_and_lro(link->index).wanted) == 0 && done;
     drop_fifo(link->index); /* with all its queues the kernel gives each of them what it chooses */
     if (before->steered[0]) done = restore_line(link->index, RPS_FILE, before->steered, false) && done;
-    if (done) drop_kept(process->folder, link, "member");
+    if (done) drop_kept(folder, link, "member");
 }
 
 /* An interface was a member of the last daemon, and is none of this one: it gets what it had, unless somebody else has it by now. */
-void put_back_former(struct process *process, struct fast_programs *fast, const struct inherited_link *was) {
+void put_back_former(struct store *store, const struct inherited *inherited, int folder, struct fast_programs *fast,
+    const struct inherited_link *was) {
     struct link link = {.index = was->index};
     struct guard guard = {.classifier = CLASSIFIER_ALONE};
-    int lock = lock_interface(&process->store, process->inherited, was->index);
+    int lock = lock_interface(store, inherited, was->index);
     if (lock < 0) return;
-    guard.opened = claim_stored(&process->store, "guard", was->index);
-    guard.chooser = claim_stored(&process->store, "queues", was->index);
+    guard.opened = claim_stored(store, "guard", was->index);
+    guard.chooser = claim_stored(store, "queues", was->index);
     memcpy(link.mac, was->mac, sizeof link.mac);
-    recall_kept_member(process->folder, &link, &guard.before);
-    close_guard(process, fast, &link, &guard);
-    return_stored(&process->store, "lock", was->index, lock);
+    recall_kept_member(folder, &link, &guard.before);
+    close_guard(store, folder, fast, &link, &guard);
+    return_stored_or_close(store, "lock", was->index, lock);
 }

@@ -34,9 +34,9 @@ static uint64_t hash_of(const struct settings *settings, const struct frame *fra
 }
 
 /* The conversation of a frame of 14 octets or more, from 0 to CONVERSATIONS - 1. */
-struct niw_number conversation_of(struct protocol *protocol, const uint8_t *frame, size_t length) {
+struct niw_number conversation_of(struct core *core, const uint8_t *frame, size_t length) {
     const struct frame whole = {frame, length};
-    if (protocol->settings->hash == HASH_LAYER2 || length < ETH_HLEN)
-        return niw_conversation(&protocol->core->system, frame, length < LONGEST_SHOWN ? length : LONGEST_SHOWN);
-    return (struct niw_number){.status = NIW_OK, .number = conversation_in(hash_of(protocol->settings, &whole))};
+    if (core->settings->hash == HASH_LAYER2 || length < ETH_HLEN)
+        return niw_conversation(&core->system, frame, length < LONGEST_SHOWN ? length : LONGEST_SHOWN);
+    return (struct niw_number){.status = NIW_OK, .number = conversation_in(hash_of(core->settings, &whole))};
 }

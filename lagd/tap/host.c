@@ -10,7 +10,7 @@
 
 /* The device is gone, or it is in another namespace, where interfaces of others have the numbers of our members: first of all nothing
  * is passed on any more. Then the peers are told, and the daemon ends, so that whoever started it starts it again, with a new device. */
-void lose_device(struct plane *plane) {
+void lose_device_and_end(struct plane *plane) {
     struct tap_plane *tap = plane->tap;
     struct host *own = &tap->host;
     if (tap->core->broken) return;
@@ -18,7 +18,7 @@ void lose_device(struct plane *plane) {
     CALL(plane->passing->end, tap);
     tap->device->index = 0;
     tap->device->carrier = false;
-    drop_stored(&tap->process->store, "tap", 0);
+    drop_stored_without_closing(&tap->process->store, "tap", 0);
     if (own->tap >= 0) await_no_more(tap->process->epoll_file, own->tap);
     (void)say(tap->core->printer, LOG_ERR | ABOUT_CARRIER, "carry %s: the device was deleted, or moved to another namespace; "
         "the peers are told, and the daemon ends", tap->settings->carry);
@@ -29,7 +29,7 @@ bool is_cutting(const struct core *core, const struct host *own) {
 }
 
 /* Takes up to `most` segments of a packet from this one on; answers how many. */
-static unsigned cut_segments(struct tap_plane *tap, const struct cut *cut, uint32_t from, unsigned most) {
+static unsigned cut_and_send_segments(struct tap_plane *tap, const struct cut *cut, uint32_t from, unsigned most) {
     struct host *own = &tap->host;
     unsigned taken = 0;
     for (; taken < most && from + taken < cut->count && !tap->core->broken; taken++) {
@@ -42,13 +42,13 @@ static unsigned cut_segments(struct tap_plane *tap, const struct cut *cut, uint3
 }
 
 /* Has a packet wait behind those that do. Where there is no room for it, it is lost. */
-static void wait_uncut(struct carry *carry, struct host *own, const uint8_t *packet, size_t length, uint16_t number) {
+static void wait_uncut(uint64_t counts[static CARRY_COUNTS], struct host *own, const uint8_t *packet, size_t length, uint16_t number) {
     unsigned place = (own->first + own->count) % BATCH;
     struct uncut *uncut = &own->waiting[place];
     uint8_t *room = room_at(own->rooms, place);
     if (own->count == BATCH || own->of_one[number] == MOST_OF_ONE) {
-        carry->counts[FROM_HOST]++;
-        carry->counts[QUEUE_FULL]++;
+        counts[FROM_HOST]++;
+        counts[QUEUE_FULL]++;
         return;
     }
     memcpy(room, packet, length);
@@ -64,7 +64,7 @@ static unsigned cut_or_accept_packet(struct tap_plane *tap, uint8_t *packet, siz
     struct cut cut;
     if (has_segments(packet)) {
         tap->carry->counts[SEGMENTED]++;
-        if (read_cut(packet, length, &cut)) return cut_segments(tap, &cut, 0, cut.count);
+        if (read_cut(packet, length, &cut)) return cut_and_send_segments(tap, &cut, 0, cut.count);
         length = 0;
     }
     finish_sum(packet, length);
@@ -73,12 +73,12 @@ static unsigned cut_or_accept_packet(struct tap_plane *tap, uint8_t *packet, siz
 }
 
 /* Takes of the packets that wait, the oldest ones first, so many segments at most. */
-static void cut_waiting(struct tap_plane *tap, unsigned most) {
+static void cut_and_send_waiting(struct tap_plane *tap, unsigned most) {
     struct host *own = &tap->host;
     for (unsigned taken = 0; taken < most && is_cutting(tap->core, &tap->host);) {
         struct uncut *uncut = &own->waiting[own->first];
         if (uncut->cut.count > 0 && uncut->next == 0) tap->carry->counts[SEGMENTED]++;
-        unsigned now = uncut->cut.count > 0 ? cut_segments(tap, &uncut->cut, uncut->next, most - taken)
+        unsigned now = uncut->cut.count > 0 ? cut_and_send_segments(tap, &uncut->cut, uncut->next, most - taken)
                                    : cut_or_accept_packet(tap, room_at(own->rooms, own->first), uncut->length);
         uncut->next += now;
         taken += now;
@@ -97,10 +97,10 @@ static unsigned accept_in_turn(struct tap_plane *tap, uint8_t *packet, size_t le
     if (length < head + ETH_HLEN) return cut_or_accept_packet(tap, packet, length);
     bool is_long = has_segments(packet) && read_cut(packet, length, &cut) && cut.count > MOST_AT_ONCE;
     if (!is_long && !is_cutting(tap->core, &tap->host)) return cut_or_accept_packet(tap, packet, length);
-    struct niw_number told = conversation_of(tap->protocol, packet + head, length - head);
+    struct niw_number told = conversation_of(tap->core, packet + head, length - head);
     uint16_t number = (uint16_t)(told.number % CONVERSATIONS);
     if (told.status != NIW_OK || (!is_long && tap->host.of_one[number] == 0)) return cut_or_accept_packet(tap, packet, length);
-    wait_uncut(tap->carry, &tap->host, packet, length, number);
+    wait_uncut(tap->carry->counts, &tap->host, packet, length, number);
     return 1;
 }
 
@@ -108,7 +108,7 @@ static unsigned accept_in_turn(struct tap_plane *tap, uint8_t *packet, size_t le
 static unsigned read_and_send_next(struct tap_plane *tap, uint8_t *packet) {
     if (tap->core->broken) return 0;
     ssize_t length = read(tap->host.tap, packet, packet_room());
-    if (length < 0 && (errno == EBADFD || errno == EIO || errno == ENODEV)) lose_device(tap->plane);
+    if (length < 0 && (errno == EBADFD || errno == EIO || errno == ENODEV)) lose_device_and_end(tap->plane);
     if (length < 0 && (tap->core->broken || errno == EAGAIN || errno == EINTR)) return 0;
     if (length >= (ssize_t)head_octets() && !tap->plane->segments) return accept_in_turn(tap, packet, (size_t)length);
     accept_from_host(tap, packet, length < 0 ? 0 : (size_t)length); /* one that cannot be read has no octets */
@@ -125,7 +125,7 @@ void read_host_and_send(struct tap_plane *tap) {
         left -= frames < left ? frames : left;
     }
     flush_data(tap);
-    cut_waiting(tap, MOST_CUT);
+    cut_and_send_waiting(tap, MOST_CUT);
     flush_data(tap);
     if (left == 0 || is_cutting(tap->core, &tap->host)) tap->carry->more_waits = true;
     CALL(tap->plane->passing->note_read, tap, got, left > 0);
@@ -140,12 +140,12 @@ bool give_host(const struct core *core, int fd, const struct iovec *parts, unsig
 /* Serves what is ready: a member, or the TAP device, whose frames come after what was released. */
 void serve_settle_and_send(struct tap_plane *tap, uint32_t tag) {
     if (tap->core->broken) return;
-    if (tag == RESPONSES) serve_data_and_answers(tap);
+    if (tag == RESPONSES) serve_changes_data_and_answers(tap);
     if (tag >= MEMBERS && tag < RESPONSES) {
         receive_data_and_changes(tap, &tap->ports->links[tag - MEMBERS]);
         if (tap->plane->changed) send_due(tap->protocol);
     }
-    settle_carry(tap->plane);
+    settle_carry_or_lose_member(tap->plane);
     if (tag == HOST) read_host_and_send(tap);
 }
 
@@ -166,7 +166,7 @@ void open_tap_plane_or_stop(struct plane *plane) {
     tap->dropper = load_program(tap->settings, "dropper", NULL, NULL);
     CALL(plane->queueing->start, tap);
     need(on_exit(put_back_members, tap) == 0, "on_exit");
-    own->tap = open_tap_or_stop(tap->device, tap->settings->carry, tap->settings->config.mac);
+    own->tap = open_tap_and_drop_old_frames_or_stop(tap->device, tap->settings->carry, tap->settings->config.mac);
     stop_device_rps(tap->core->printer, tap->device->index);
     CALL(plane->passing->start, tap);
     if (!await_input(tap->process->epoll_file, own->tap, HOST)) stop(REFUSED, "epoll", strerror(errno));
@@ -175,6 +175,7 @@ void open_tap_plane_or_stop(struct plane *plane) {
 void end_tap_plane(struct plane *plane) {
     struct tap_plane *tap = plane->tap;
     await_no_more(tap->process->epoll_file, tap->host.tap);
+    CALL(plane->passing->open_host, tap, false);
     set_carrier(tap->device, false);
     remove_all_members(plane, tap->ports);
     CALL(plane->passing->end, tap);

@@ -81,7 +81,7 @@ static bool set_bypass(int fd, const struct guard *guard) {
 }
 
 /* What the socket for data has more: room, frames to all addresses, and a head before each frame. */
-static bool set_up_data(int fd, int index, const struct guard *guard) {
+static bool set_up_promiscuous_socket(int fd, int index, const struct guard *guard) {
     struct packet_mreq all = {index, PACKET_MR_PROMISC, 0, {0}};
     set_buffer(fd, SO_RCVBUFFORCE, SO_RCVBUF);
     set_buffer(fd, SO_SNDBUFFORCE, SO_SNDBUF);
@@ -90,10 +90,11 @@ static bool set_up_data(int fd, int index, const struct guard *guard) {
 
 /* Opens a socket of a member; answers it, or -errno. One for all protocols has markers before the filters and bridges of an administrator,
  * which may take frames away there. Where the kernel hands up what comes, nothing comes by that for data. */
-static int open_socket_of_kind(struct process *process, int device_index, const struct link *link, const struct guard *guard, enum socket_kind kind) {
+static int open_socket_of_kind(struct store *store, const struct inherited *inherited, int epoll_file, int device_index, const struct link *link,
+    const struct guard *guard, enum socket_kind kind) {
     int index = kind == MARKERS ? device_index : link->index;
     struct sockaddr_ll address = {.sll_family = AF_PACKET, .sll_protocol = htons(kind == DIRECT ? ETH_P_SLOW : ETH_P_ALL), .sll_ifindex = index};
-    int fd = packet_socket(&process->store, process->inherited, SOCKET_NAMES[kind], link->index, index, SOCK_RAW);
+    int fd = packet_socket(store, inherited, SOCKET_NAMES[kind], link->index, index, SOCK_RAW);
     bool only_sends = kind == DATA && guard->fast, filtered;
     if (fd < 0) return fd;
     (void)set_packet(fd, PACKET_IGNORE_OUTGOING, 1);
@@ -101,13 +102,13 @@ static int open_socket_of_kind(struct process *process, int device_index, const 
         filtered = filter_by_mark(fd, only_sends ? 0 : link->settings.number);
     else
         filtered = filter_markers(fd, true);
-    if (filtered && (kind != DATA || set_up_data(fd, index, guard)) && set_packet(fd, PACKET_AUXDATA, 1)
+    if (filtered && (kind != DATA || set_up_promiscuous_socket(fd, index, guard)) && set_packet(fd, PACKET_AUXDATA, 1)
         && bind(fd, (struct sockaddr *)&address, sizeof address) == 0
-        && (only_sends || await_input(process->epoll_file, fd, MEMBERS + link->settings.number - 1u))) {
-        put_stored(&process->store, SOCKET_NAMES[kind], link->index, fd);
+        && (only_sends || await_input(epoll_file, fd, MEMBERS + link->settings.number - 1u))) {
+        put_stored(store, SOCKET_NAMES[kind], link->index, fd);
         return fd;
     }
-    close_stored(&process->store, SOCKET_NAMES[kind], link->index, fd);
+    close_stored(store, SOCKET_NAMES[kind], link->index, fd);
     return last_fault();
 }
 
@@ -119,17 +120,18 @@ static void close_all_sockets(struct store *store, const struct link *link, stru
 }
 
 /* An interface is no member any more, and has what it had before. */
-static void release_member(struct process *process, struct fast_programs *fast, const struct link *link, struct member *member) {
-    close_all_sockets(&process->store, link, member);
-    close_guard(process, fast, link, &member->guard);
+static void release_member(struct store *store, int folder, struct fast_programs *fast, const struct link *link, struct member *member) {
+    close_all_sockets(store, link, member);
+    close_guard(store, folder, fast, link, &member->guard);
 }
 
 /* Opens the sockets of a member whose programs run; answers 0, or -errno, and then it is no member any more. */
 static int open_sockets_or_release(struct tap_plane *tap, const struct link *link, struct member *member) {
     for (enum socket_kind kind = DATA; kind < (member->guard.fast ? SOCKETS : MARKERS); kind++) {
-        int opened = member->sockets[kind] = open_socket_of_kind(tap->process, tap->device->index, link, &member->guard, kind);
+        int opened = member->sockets[kind] = open_socket_of_kind(&tap->process->store, tap->process->inherited, tap->process->epoll_file,
+            tap->device->index, link, &member->guard, kind);
         if (opened >= 0) continue;
-        release_member(tap->process, &tap->fast, link, member);
+        release_member(&tap->process->store, tap->process->folder, &tap->fast, link, member);
         return opened;
     }
     begin_queues(&tap->queues[link->settings.number - 1], member->guard.queues);
@@ -154,23 +156,23 @@ static void count_socket_losses(struct member *member) {
 }
 
 /* The programs and sockets of a member are chosen anew; answers whether it is still taken up. */
-static bool renew_member(struct tap_plane *tap, struct link *link) {
+static bool withdraw_and_renew_member_or_end(struct tap_plane *tap, struct link *link) {
     struct member *member = member_of(tap, link);
     CALL(tap->plane->passing->withdraw_port_or_end, tap, link->settings.number);
     count_socket_losses(member);
     close_all_sockets(&tap->process->store, link, member);
-    reopen_guard(tap, link, &member->guard);
+    renew_guard(tap, link, &member->guard);
     tap->plane->changed = true;
     return open_sockets_or_release(tap, link, member) == 0;
 }
 
 static bool tell_and_renew(struct tap_plane *tap, struct link *link) {
     (void)say(tap->core->printer, LOG_NOTICE | ABOUT_DATA, "port %u %s: its queues were changed", link->settings.number, link->name);
-    return renew_member(tap, link);
+    return withdraw_and_renew_member_or_end(tap, link);
 }
 
 /* The interface has another queueing discipline: how data is sent is seen anew. Answers whether the member is still taken up. */
-bool reopen_member(struct plane *plane, struct link *link) {
+bool read_discipline_and_renew_or_end(struct plane *plane, struct link *link) {
     char before[DISCIPLINE_ROOM];
     memcpy(before, link->discipline, sizeof before);
     if (!read_discipline(link->index, link->discipline) || strcmp(before, link->discipline) == 0) return true;
@@ -181,7 +183,7 @@ static bool renew_for_discipline(struct plane *plane, struct link *link) {
     struct tap_plane *tap = plane->tap;
     struct member *member = member_of(tap, link);
     if (!is_open(member)) return true;
-    if (plane->renews) return renew_member(tap, link);
+    if (plane->renews) return withdraw_and_renew_member_or_end(tap, link);
     give_fifos_and_note_order(tap->core->printer, plane, link, &member->guard);
     return set_bypass(member->sockets[DATA], &member->guard);
 }
@@ -193,10 +195,10 @@ void set_mac_and_move_kept(struct plane *plane, struct link *link, const uint8_t
 }
 
 /* What a member had before it was one stays known by its new MAC address, also where this daemon is killed. */
-static void move_member(struct plane *plane, struct link *link, const uint8_t *mac) {
+static void move_kept_of_member(struct plane *plane, struct link *link, const uint8_t *mac) {
     const struct member *member = member_of(plane->tap, link);
     if (!is_open(member)) return;
-    move_kept_queues(plane->tap->process, link, mac);
+    move_kept_queues(plane->tap->core->printer, plane->tap->process->folder, link, mac);
     write_kept_member(plane->tap->core->printer, plane->tap->process->folder, link, &member->guard.before);
 }
 
@@ -209,14 +211,14 @@ static bool follow_member_queues(struct tap_plane *tap, struct link *link) {
 }
 
 /* Each second a member is taken up anew whose queues others changed, or that has the number of queues of the others by now. */
-static void watch_queues(struct tap_plane *tap) {
+static void watch_queues_renew_or_lose_or_end(struct tap_plane *tap) {
     if (tap->protocol->ticks % SECOND != 0) return;
     EACH_LINK(link, tap->ports) {
         const struct member *member = member_of(tap, link);
         if (!is_open(member)) continue;
         bool changed = is_changed_by_others(seconds_since(tap->protocol->began), link, &member->guard);
         if (!changed && !(member->guard.unusual && choose_usual_queues(&tap->usual_queues, tap->members, tap->ports->count, member->guard.queues))) continue;
-        if (!(changed ? tell_and_renew(tap, link) : renew_member(tap, link))) lose_link_and_ask_again(tap->protocol, link);
+        if (!(changed ? tell_and_renew(tap, link) : withdraw_and_renew_member_or_end(tap, link))) lose_link_and_ask_again(tap->protocol, link);
     }
 }
 
@@ -232,16 +234,16 @@ void count_full_sockets(struct member *members, uint16_t count) {
     for (uint16_t i = 0; i < count; i++) count_socket_losses(&members[i]);
 }
 
-static void close_member(struct plane *plane, const struct link *link) {
+static void withdraw_and_release_member_or_end(struct plane *plane, const struct link *link) {
     struct tap_plane *tap = plane->tap;
     struct member *member = member_of(tap, link);
     if (!is_open(member)) return;
     withdraw_and_drop_answers(plane, link);
     count_socket_losses(member);
-    release_member(tap->process, &tap->fast, link, member);
+    release_member(&tap->process->store, tap->process->folder, &tap->fast, link, member);
 }
 
-static void clear_member(struct plane *plane, const struct link *link) {
+static void clear_counts_mtu_and_speed(struct plane *plane, const struct link *link) {
     struct member *member = member_of(plane->tap, link);
     memset(member->counts, 0, sizeof member->counts);
     member->mtu = member->megabits = 0;
@@ -253,7 +255,7 @@ void put_back_members(int status UNUSED, void *given) {
     struct tap_plane *tap = given;
     EACH_LINK(link, tap->ports) {
         struct member *member = member_of(tap, link);
-        if (!tap->process->has_left && is_open(member)) release_member(tap->process, &tap->fast, link, member);
+        if (!tap->process->has_left && is_open(member)) release_member(&tap->process->store, tap->process->folder, &tap->fast, link, member);
     }
 }
 
@@ -267,10 +269,10 @@ static void follow_member_mtu(struct plane *plane, const struct link *link, uint
         uint32_t most = tap->members[i].mtu;
         if (most > 0 && most < least) least = most;
     }
-    if (least != UINT32_MAX) limit_mtu(tap->device, least);
+    if (least != UINT32_MAX) limit_and_settle_tap_mtu(tap->device, least);
 }
 
-static void follow_speed(struct plane *plane, const struct link *link) {
+static void read_member_speed(struct plane *plane, const struct link *link) {
     uint32_t now = read_speed(link->socket, link->index).megabits;
     member_of(plane->tap, link)->megabits = now == (uint32_t)SPEED_UNKNOWN ? 0 : now;
     plane->changed = true;
@@ -285,11 +287,11 @@ uint32_t sum_speeds(const struct carry *carry, const struct member *members) {
 }
 
 /* Sends what waits for a member. A frame that the kernel does not take is lost, as on a wire. */
-static void flush_member(struct changes *changes, struct member *member) {
+static void flush_member(bool *carrier_suspected, struct member *member) {
     for (unsigned at = 0; at < member->out;) {
         int sent = is_open(member) ? sendmmsg(member->sockets[DATA], member->messages + at, member->out - at, 0) : -1;
         if (sent < 0 && is_open(member) && errno == EINTR) continue;
-        if (sent < 0) changes->suspected = true;
+        if (sent < 0) *carrier_suspected = true;
         member->counts[sent > 0 ? DATA_SENT : DATA_UNSENT] += sent > 0 ? (unsigned)sent : 1;
         at += sent > 0 ? (unsigned)sent : 1;
     }
@@ -297,14 +299,14 @@ static void flush_member(struct changes *changes, struct member *member) {
 }
 
 void flush_data(struct tap_plane *tap) {
-    EACH_LINK(link, tap->ports) flush_member(&tap->protocol->changes, member_of(tap, link));
+    EACH_LINK(link, tap->ports) flush_member(&tap->protocol->changes.suspected, member_of(tap, link));
     free_left(&tap->held);
 }
 
 /* Puts a packet of a conversation behind those that wait for a port. It stays where it is until flush_data. */
 void put_data(struct tap_plane *tap, uint16_t port, uint16_t number, uint8_t *packet, size_t length) {
     struct member *member = &tap->members[port - 1];
-    if (member->out == BATCH) flush_member(&tap->protocol->changes, member);
+    if (member->out == BATCH) flush_member(&tap->protocol->changes.suspected, member);
     member->parts[member->out] = (struct iovec){packet, length};
     member->messages[member->out].msg_hdr = (struct msghdr){.msg_iov = &member->parts[member->out], .msg_iovlen = 1};
     CALL(tap->plane->queueing->mark, &tap->queues[port - 1], number, &member->messages[member->out].msg_hdr);
@@ -331,7 +333,7 @@ static bool send_by_one_queue(struct tap_plane *tap, struct link *link, const ui
 /* Sends a marker behind the data of its port, by the same socket: by another one, of another priority, it would overtake them. What the
  * kernel passes on and no longer may is taken back before. */
 static bool flush_withdraw_and_send(struct tap_plane *tap, struct link *link, const uint8_t *marker, bool again) {
-    flush_member(&tap->protocol->changes, member_of(tap, link));
+    flush_member(&tap->protocol->changes.suspected, member_of(tap, link));
     CALL(tap->plane->passing->withdraw, tap);
     return tap->plane->queueing->send_marker(tap, link, marker, again);
 }
@@ -440,7 +442,7 @@ static void receive_packets_and_changes(struct tap_plane *tap, struct link *link
 }
 
 /* Takes all that waits at a member, but for a flood, before its port is held: what came before that is collected. */
-static void drain_member(struct plane *plane, struct link *link) {
+static void drain_data_and_changes(struct plane *plane, struct link *link) {
     struct tap_plane *tap = plane->tap;
     bool more = is_open(member_of(tap, link));
     for (unsigned turn = 0; more && turn < MOST_DRAINED && !tap->core->broken; turn++) {
@@ -461,14 +463,15 @@ static int check_tap(struct printer *printer, struct plane *plane UNUSED, const 
 }
 
 const struct carrying TAP_DEVICE = {
-    .open = open_tap_plane_or_stop, .end = end_tap_plane, .lose_device = lose_device, .keep_device = keep_tap, .leave = leave_tap,
-    .give_carrier = give_tap_carrier, .settle_mtu = settle_tap_mtu, .add = open_member, .remove = close_member, .renew = renew_for_discipline,
-    .move = move_member, .follow_mtu = follow_member_mtu, .follow_speed = follow_speed, .can_empty = can_empty, .empty = empty_port_and_send,
-    .drain = drain_member, .lose = withdraw_and_drop_answers, .forget = clear_member, .send_marker = withdraw_and_send_new_marker,
-    .note_response = note_response, .settle = choose_move_and_send, .tick = pass_tick_of_frames, .keeps_aggregator = heard_peer_lately,
-    .frames_heard = frames_handed_up, .tell_host = set_speed_and_carrier, .resume = resume_conversations, .go_on = settle_carry,
-    .member_of = fast_member_of, .end_resuming = release_former_members, .frames_waiting = count_frames_waiting, .check = check_tap,
-    .show = show_carry, .show_member = show_member, .show_markers = show_markers, .show_waiting = show_frames_waiting,
+    .open = open_tap_plane_or_stop, .end = end_tap_plane, .lose_device = lose_device_and_end, .keep_device = set_tap_persistence,
+    .leave = drop_tap_persistence, .give_carrier = give_tap_carrier, .settle_mtu = settle_tap_mtu, .add = open_member,
+    .remove = withdraw_and_release_member_or_end, .renew = renew_for_discipline, .move = move_kept_of_member, .follow_mtu = follow_member_mtu,
+    .follow_speed = read_member_speed, .can_empty = can_empty, .empty = empty_port_and_send, .drain = drain_data_and_changes,
+    .lose = withdraw_and_drop_answers, .forget = clear_counts_mtu_and_speed, .send_marker = withdraw_and_send_new_marker,
+    .note_response = note_response, .settle = choose_move_and_send, .tick = pass_data_tick_and_restart_ports, .keeps_aggregator = heard_peer_lately,
+    .frames_heard = sum_frames_heard_and_follow_peer, .tell_host = set_speed_and_carrier, .resume = resume_conversations_or_end,
+    .go_on = settle_carry_or_lose_member, .member_of = fast_member_of, .end_resuming = release_former_members, .frames_waiting = count_frames_waiting,
+    .check = check_tap, .show = show_carry, .show_member = show_member, .show_markers = show_markers, .show_waiting = show_frames_waiting,
     .end_count = CARRY_COUNTS, .member_counts = MEMBER_COUNTS, .keeps_members = true, .administers = true, .nameless = "",
 };
 
@@ -483,6 +486,6 @@ static int check_all_queues(struct printer *printer, struct plane *plane UNUSED,
 
 const struct queueing ALL_QUEUES = {
     .check = check_all_queues, .start = start_all_queues_or_stop, .fifos_of = count_sending_queues, .set = set_all_queues,
-    .follow = follow_member_queues, .watch = watch_queues, .mark = mark_conversation, .send_marker = send_by_queues,
+    .follow = follow_member_queues, .watch = watch_queues_renew_or_lose_or_end, .mark = mark_conversation, .send_marker = send_by_queues,
     .accept_response = accept_response_of_queue, .answer = answer_later, .show = show_queues, .text = ", all queues", .markers_at_once = MARKERS_AT_ONCE,
 };

@@ -2,11 +2,10 @@
 #include "carry.h"
 
 /* Whether it is known that no conversation is held on a port that carries. */
-static bool none_moves(struct carry *carry) {
+static bool none_moves(struct core *core, const struct carry *carry) {
     uint64_t held;
     for (uint16_t i = 0; i < carry->active_count; i++)
-        if (!is_told(carry->core, niw_held(&carry->core->system, carry->active_ports[i]), "niw_held", &held) || held > 0)
-            return false;
+        if (!is_told(core, niw_held(&core->system, carry->active_ports[i]), "niw_held", &held) || held > 0) return false;
     return true;
 }
 
@@ -82,12 +81,12 @@ bool empty_port_and_send(struct plane *plane, const struct link *link) {
 void balance_and_send(struct carry *carry) {
     EACH_LINK_AS_IS(link, carry->ports)
         if (link->emptying || awaits_collecting(carry, link->settings.number)) return;
-    if (carry->active_count < 2 || carry->probe.peer != ANSWERS || !none_moves(carry)
+    if (carry->active_count < 2 || carry->probe.peer != ANSWERS || !none_moves(carry->core, carry)
         || !ask_ports(carry->core, carry->active, carry->port_of))
         return;
     if (move_asked(carry) || level_loads(carry)) send_due(carry->protocol);
 }
 
-void ask_moves(struct carry *carry) {
+void mark_busy_to_move(struct carry *carry) {
     EACH_CONVERSATION(conversation, carry) conversation->asked = is_busy(carry, conversation);
 }

@@ -74,7 +74,7 @@ static struct flight *next_flight(struct queues *queues) {
 
 /* The queues with frames of which no response has told yet. Where the kernel passes frames on, that is any: how many there are is seen
  * anew, since it goes by as many as there are now. */
-static uint32_t recount_unanswered(const struct member *member, int index, struct queues *queues) {
+static uint32_t read_queues_and_find_unanswered(const struct member *member, int index, struct queues *queues) {
     uint32_t found = queues->dirty;
     for (size_t i = 0; i < MOST_FLIGHTS; i++) found |= queues->flights[i].waiting;
     if (is_fast(member)) {
@@ -103,7 +103,7 @@ bool send_by_queues(struct tap_plane *tap, struct link *link, const uint8_t *mar
     struct queues *queues = &tap->queues[link->settings.number - 1];
     bool done = true;
     if (!again) {
-        uint32_t waiting = recount_unanswered(member, link->index, queues);
+        uint32_t waiting = read_queues_and_find_unanswered(member, link->index, queues);
         struct flight *place = next_flight(queues);
         *place = (struct flight){read32(marker + IDENTIFIER_AT), waiting, tap->carry->time, queues->sent++};
         queues->dirty = 0;

@@ -161,10 +161,10 @@ struct tap_plane {
 };
 
 /* data.c */
-uint64_t frames_handed_up(struct plane *plane, bool counts_now);
+uint64_t sum_frames_heard_and_follow_peer(struct plane *plane, bool counts_now);
 void set_speed_and_carrier(struct plane *plane);
 void choose_move_and_send(struct plane *plane);
-void pass_tick_of_frames(struct plane *plane);
+void pass_data_tick_and_restart_ports(struct plane *plane);
 void accept_from_host(struct tap_plane *tap, uint8_t *packet, size_t length);
 void hand_up_or_follow_peer_and_tell(struct tap_plane *tap, uint32_t aggregator, uint8_t *packet, size_t length);
 
@@ -185,7 +185,7 @@ bool send_by_queues(struct tap_plane *tap, struct link *link, const uint8_t *mar
 bool answer_at_once(struct tap_plane *tap, struct link *link, const uint8_t *response);
 bool answer_later(struct tap_plane *tap, struct link *link, const uint8_t *response);
 int open_answer_timer_or_stop(int epoll_file);
-void serve_data_and_answers(struct tap_plane *tap);
+void serve_changes_data_and_answers(struct tap_plane *tap);
 void note_unread(struct answers *answers, unsigned packets, bool drained);
 
 /* kept.c */
@@ -198,7 +198,7 @@ void merge_kept_member(struct printer *printer, int folder, const struct link *l
 void recall_kept_member(int folder, const struct link *link, struct kept *kept);
 
 /* host.c */
-void lose_device(struct plane *plane);
+void lose_device_and_end(struct plane *plane);
 void serve_settle_and_send(struct tap_plane *tap, uint32_t tag);
 void withdraw_and_drop_answers(struct plane *plane, const struct link *link);
 void open_tap_plane_or_stop(struct plane *plane);
@@ -213,7 +213,7 @@ bool read_discipline(int index, char name[static DISCIPLINE_ROOM]);
 bool all_queues_keep_order(int index);
 bool may_all_queues_keep_order(int index);
 bool give_each_fifo(int index, unsigned queues, uint32_t megabits);
-void fit_each_fifo(int index, unsigned queues, uint32_t megabits);
+void make_or_fit_each_fifo(int index, unsigned queues, uint32_t megabits);
 void drop_fifo(int index);
 void give_no_queue(int index);
 enum classifier set_classifier(int program, int index);
@@ -225,16 +225,17 @@ void stop_device_rps(struct printer *printer, int index);
 void start_all_queues_or_stop(struct tap_plane *tap);
 bool choose_usual_queues(unsigned *usual, const struct member *members, uint16_t count, unsigned queues);
 bool is_changed_by_others(uint64_t seconds, const struct link *link, const struct guard *guard);
-void move_kept_queues(struct process *process, struct link *link, const uint8_t *mac);
+void move_kept_queues(struct printer *printer, int folder, struct link *link, const uint8_t *mac);
 void open_guard(struct tap_plane *tap, struct link *link, struct guard *guard);
 void keep_from_stack(struct tap_plane *tap, const struct link *link, struct guard *guard);
 void run_fast_programs(struct tap_plane *tap, const struct link *link, struct guard *guard);
 bool set_one_queue(struct tap_plane *tap, struct link *link, struct guard *guard, bool again);
 bool set_all_queues(struct tap_plane *tap, struct link *link, struct guard *guard, bool again);
 void give_fifos_and_note_order(struct printer *printer, const struct plane *plane, struct link *link, struct guard *guard);
-void reopen_guard(struct tap_plane *tap, struct link *link, struct guard *guard);
-void close_guard(struct process *process, struct fast_programs *fast, const struct link *link, struct guard *guard);
-void put_back_former(struct process *process, struct fast_programs *fast, const struct inherited_link *was);
+void renew_guard(struct tap_plane *tap, struct link *link, struct guard *guard);
+void close_guard(struct store *store, int folder, struct fast_programs *fast, const struct link *link, struct guard *guard);
+void put_back_former(struct store *store, const struct inherited *inherited, int folder, struct fast_programs *fast,
+    const struct inherited_link *was);
 
 /* members.c */
 extern const struct carrying TAP_DEVICE;
@@ -252,7 +253,7 @@ bool withdraw_and_repeat_marker(struct tap_plane *tap, uint16_t port);
 void count_full_sockets(struct member *members, uint16_t count);
 
 /* hash.c */
-struct niw_number conversation_of(struct protocol *protocol, const uint8_t *frame, size_t length);
+struct niw_number conversation_of(struct core *core, const uint8_t *frame, size_t length);
 
 /* packets.c: a packet is a frame, and what the kernel tells before it */
 #define USUAL_TAGS 2 /* that of a customer, and that of a provider (IEEE 802.1Q) */

@@ -106,13 +106,13 @@ bool give_each_fifo(int index, unsigned queues, uint32_t megabits) {
     bool given = change_root(RTM_NEWQDISC, NLM_F_CREATE, index, FIFO, "mq");
     if (!given) drop_fifo(index);
     if (!given && !change_root(RTM_NEWQDISC, NLM_F_CREATE, index, FIFO, "mq")) return false;
-    fit_each_fifo(index, queues, megabits);
+    make_or_fit_each_fifo(index, queues, megabits);
     return all_queues_keep_order(index);
 }
 
-/* The link has this speed now: each queue of an interface gets its length, if it is one of the daemon. Where an administrator set another one, the
- * kernel refuses. */
-void fit_each_fifo(int index, unsigned queues, uint32_t megabits) {
+/* The link has this speed now: each queue of an interface gets its length, if it is one of the daemon. Of several, one that the kernel chose by
+ * itself goes, and one of the daemon comes in its place. Where an administrator set another one, the kernel refuses. */
+void make_or_fit_each_fifo(int index, unsigned queues, uint32_t megabits) {
     if (queues <= 1) (void)set_fifo(index, megabits, 0, TC_H_ROOT, FIFO);
     for (unsigned queue = 0; queues > 1 && queue < queues; queue++)
         (void)set_fifo(index, megabits, NLM_F_CREATE, FIFO | (queue + 1), 0);
@@ -164,7 +164,7 @@ static bool has_own_alone(int index, uint32_t direction) {
 }
 
 /* The classifier goes: with its place, if the daemon made that and nobody else uses it by now. */
-static void leave_place(int index, bool made) {
+static void remove_filter_and_unused_place(int index, bool made) {
     bool alone = made && has_own_alone(index, TC_H_MIN_INGRESS) && has_own_alone(index, TC_H_MIN_EGRESS);
     union message place = question_of_place(RTM_DELQDISC, 0, index);
     union message own = question_of_classifier(RTM_DELTFILTER, 0, index, made ? PLACE_MADE : PLACE_FOUND);
@@ -182,10 +182,10 @@ enum classifier set_classifier(int program, int index) {
     mnl_attr_put_u32(&question.head, TCA_BPF_FLAGS, TCA_BPF_FLAG_ACT_DIRECT);
     mnl_attr_nest_end(&question.head, nest);
     if (call_rtnetlink(&question)) return made ? CLASSIFIER_ALONE : CLASSIFIER_BEHIND_OTHERS;
-    if (made) leave_place(index, true);
+    if (made) remove_filter_and_unused_place(index, true);
     return NO_CLASSIFIER;
 }
 
 void drop_classifier(int index) {
-    leave_place(index, has_classifier(index, PLACE_MADE));
+    remove_filter_and_unused_place(index, has_classifier(index, PLACE_MADE));
 }

@@ -70,7 +70,7 @@ static void look_at_driver(struct team_plane *team) {
     note_counted(team, device.octets_sent);
 }
 
-uint64_t team_frames_received(struct plane *plane, bool looks) {
+uint64_t look_at_buckets_and_frames_received(struct plane *plane, bool looks) {
     if (looks) look_at_driver(plane->team);
     return plane->team->frames_received;
 }
@@ -86,16 +86,16 @@ void start_buckets(struct team_plane *team) {
 }
 
 /* The conversation leaves its port at once: its frames cannot be held. */
-static bool force_free(struct carry *carry, uint16_t aggregator, uint16_t number) {
-    if (!is_done(carry->core, niw_force(&carry->core->system, aggregator, number), "niw_force")) return false;
-    carry->counts[FORCED]++;
+static bool force_free(struct core *core, uint64_t *forced, uint16_t aggregator, uint16_t number) {
+    if (!is_done(core, niw_force(&core->system, aggregator, number), "niw_force")) return false;
+    (*forced)++;
     return true;
 }
 
 /* The port by which the frames of a conversation go from now on; 0 where the library tells none. */
 static uint16_t place_conversation(struct carry *carry, uint16_t number) {
     struct niw_number answer = niw_offer_conversation(&carry->core->system, carry->active, number);
-    if (answer.status == NIW_HELD && force_free(carry, carry->active, number))
+    if (answer.status == NIW_HELD && force_free(carry->core, &carry->counts[FORCED], carry->active, number))
         answer = niw_offer_conversation(&carry->core->system, carry->active, number);
     if (answer.status == NIW_NONE_DISTRIBUTING || !is_done(carry->core, answer.status, "niw_offer_conversation")) return 0;
     carry->conversations[number].home = carry->active;
@@ -104,16 +104,16 @@ static uint16_t place_conversation(struct carry *carry, uint16_t number) {
 }
 
 /* Another aggregator is active, or none: no conversation is on a port of the last one. */
-static void leave_last_aggregator(struct team_plane *team) {
-    uint16_t left = team->previous;
-    if (left == team->carry->active) return;
+static void leave_last_aggregator(struct core *core, uint16_t active, uint16_t *last, uint64_t *forced) {
+    uint16_t left = *last;
+    if (left == active) return;
     for (uint16_t number = 0; left != 0 && number < CONVERSATIONS; number++) {
         struct niw_assignment state;
-        if (!ask_state(team->core, left, number, &state)) return;
-        if (is_held(&state) && !force_free(team->carry, left, number)) return;
-        if (state.what == NIW_CONVERSATION_ON && !is_done(team->core, niw_rest(&team->core->system, left, number), "niw_rest")) return;
+        if (!ask_state(core, left, number, &state)) return;
+        if (is_held(&state) && !force_free(core, forced, left, number)) return;
+        if (state.what == NIW_CONVERSATION_ON && !is_done(core, niw_rest(&core->system, left, number), "niw_rest")) return;
     }
-    team->previous = team->carry->active;
+    *last = active;
 }
 
 /* The driver refused what it was told of a port, which is taken up anew. Where the kernel has no memory, the next tick tells it again. */
@@ -156,11 +156,11 @@ static bool place_buckets_or_lose_member(struct team_plane *team) {
 
 /* Ports pass data before buckets go there, and until none is left on them. A bucket that has no port goes by the choice of the driver, which is
  * another one for another number of ports. */
-static void place_in_active(struct team_plane *team) {
+static void place_and_set_carrier_or_lose_members(struct team_plane *team) {
     const struct carry *carry = team->carry;
     bool is_active[NIW_MOST_PORTS] = {false};
     if (carry->active == 0) set_carrier(team->device, false);
-    leave_last_aggregator(team);
+    leave_last_aggregator(team->core, carry->active, &team->previous, &team->carry->counts[FORCED]);
     for (uint16_t i = 0; i < carry->active_count; i++) {
         is_active[carry->active_ports[i] - 1] = true;
         if (!set_passing_or_lose_member(team, carry->active_ports[i], true)) return;
@@ -177,7 +177,7 @@ void settle_team(struct plane *plane) {
     struct carry *carry = plane->carry;
     uint16_t before = carry->active;
     choose_ports_and_tell_host(plane);
-    place_in_active(plane->team);
+    place_and_set_carrier_or_lose_members(plane->team);
     if (carry->active != before) count_and_forget_heard(carry); /* until now frames came by the ports of the last one */
 }
 
@@ -208,11 +208,11 @@ unsigned count_waiting_buckets(const struct team_plane *team) {
 
 void pass_tick_of_team(struct plane *plane) {
     struct team_plane *team = plane->team;
-    begin_carry_tick_and_announce(team->carry);
+    begin_carry_tick_and_announce(team->core->printer, team->device, &team->carry->time, &team->carry->announce);
     unsigned waiting = count_waiting_buckets(team);
     if (team->carry->time - team->looked_at >= (waiting > 0 ? LOOKED_WAITING : LOOKED_EVERY)) look_at_driver(team);
     if (waiting > 0) rest_silent_conversations(team->core, team, &team->carry->counts[RESTED]);
     if (team->protocol->ticks % SECOND == 0) give_addresses_or_lose_members(team);
     note_heard(team->carry);
-    end_carry_tick_and_wake_ports(team->carry);
+    end_carry_tick_and_restart_ports(team->carry);
 }

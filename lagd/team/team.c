@@ -78,11 +78,10 @@ static void adopt_device_or_stop(struct team_plane *team, const struct interface
 
 /* A TAP device of the last daemon goes. Finds its team device, whatever an administrator named it since, or else one of this name; answers whether
  * there is one. */
-static bool drop_tap_and_find(struct process *process, const char *name, struct interface *device) {
-    int tap = claim_stored(&process->store, "tap", 0);
-    if (tap >= 0) close_stored(&process->store, "tap", 0, tap);
-    if (process->inherited->tap != 0 && ask_interface(process->inherited->tap, NULL, device) && strcmp(device->kind, TEAM_KIND) == 0)
-        return true;
+static bool drop_tap_and_find(struct store *store, const struct inherited *inherited, const char *name, struct interface *device) {
+    int tap = claim_stored(store, "tap", 0);
+    if (tap >= 0) close_stored(store, "tap", 0, tap);
+    if (inherited->tap != 0 && ask_interface(inherited->tap, NULL, device) && strcmp(device->kind, TEAM_KIND) == 0) return true;
     for (int tries = 0; ask_interface(0, name, device); tries++) {
         if (strcmp(device->kind, "tun") != 0 || tries == MOST_TRIES) return true;
         (void)poll(NULL, 0, NIW_TICK_MILLISECONDS);
@@ -126,8 +125,8 @@ void give_addresses_or_lose_members(struct team_plane *team) {
     }
 }
 
-/* Takes an interface out of the device, by which it goes down: also where the device is gone, or somebody else took it out. */
-void take_out_of_team(const struct team_plane *team, int index) {
+/* Takes an interface out of the device, by which it goes down, and has it up again: also where the device is gone, or somebody else took it out. */
+void take_out_of_team_and_bring_up(const struct team_plane *team, int index) {
     struct interface port;
     if (!team->opened || !ask_interface(index, NULL, &port) || (port.master != 0 && port.master != team->device->index)) return;
     bool up = port.master == 0 || (port.flags & IFF_UP);
@@ -151,7 +150,7 @@ static int open_team_port(struct plane *plane, struct link *link) {
     if (fault == 0 && memcmp(port.mac, mac, sizeof mac) != 0) fault = give_address_down_if_busy(link->index, mac);
     team->taken[link - team->ports->links] = fault == 0;
     forget_port(team, link->settings.number);
-    if (fault != 0) take_out_of_team(team, link->index);
+    if (fault != 0) take_out_of_team_and_bring_up(team, link->index);
     if (fault != 0 && up) (void)set_interface_up(link->index, true);
     return fault;
 }
@@ -161,11 +160,11 @@ static void close_team_port(struct plane *plane, const struct link *link) {
     if (!team->taken[link - team->ports->links]) return;
     team->taken[link - team->ports->links] = false;
     forget_port(team, link->settings.number);
-    take_out_of_team(team, link->index);
+    take_out_of_team_and_bring_up(team, link->index);
 }
 
 /* Whether an interface is still a port of the device, as the kernel tells another master, or none: that may be older than what the daemon did. */
-static bool is_still_team_port(const struct plane *plane, const struct link *link, int master) {
+static bool ask_whether_still_team_port(const struct plane *plane, const struct link *link, int master) {
     const struct team_plane *team = plane->team;
     struct interface now;
     if (!team->taken[link - team->ports->links] || master == team->device->index || !ask_interface(link->index, NULL, &now))
@@ -173,8 +172,8 @@ static bool is_still_team_port(const struct plane *plane, const struct link *lin
     return now.master == team->device->index;
 }
 
-/* The ports that a device has of the last daemon are free. */
-static void free_inherited_ports(const struct inherited *inherited, int index) {
+/* The ports that a device has of the last daemon are free, and up. */
+static void take_out_inherited_and_bring_up(const struct inherited *inherited, int index) {
     struct interface port;
     for (unsigned i = 0; i < inherited->link_count; i++)
         if (ask_interface(inherited->links[i].index, NULL, &port) && port.master == index && set_master(port.index, 0))
@@ -189,7 +188,7 @@ static void leave_team(struct plane *plane, int index, bool owned) {
     if (!load_team_driver(&team->family) || !ask_interface(index, NULL, &device) || strcmp(device.kind, TEAM_KIND) != 0) return;
     int held = lock_interface(&team->process->store, team->process->inherited, index);
     if (held < 0) return;
-    free_inherited_ports(team->process->inherited, index);
+    take_out_inherited_and_bring_up(team->process->inherited, index);
     if (owned) (void)remove_device(index);
     close_stored(&team->process->store, "lock", index, held);
 }
@@ -200,13 +199,13 @@ static void release_team(int status UNUSED, void *given) {
     struct team_plane *team = given;
     if (!team->opened || team->process->has_left) return;
     EACH_LINK(link, team->ports) close_team_port(team->plane, link);
-    if (team->device->index != 0) free_inherited_ports(team->process->inherited, team->device->index);
+    if (team->device->index != 0) take_out_inherited_and_bring_up(team->process->inherited, team->device->index);
     if (team->plane->owns_device && team->device->index != 0) (void)remove_device(team->device->index);
     if (team->lock >= 0) close_stored(&team->process->store, "lock", team->locked, team->lock);
     team->opened = false;
 }
 
-static void open_team_or_stop(struct plane *plane) {
+static void drop_tap_and_open_team_or_stop(struct plane *plane) {
     struct team_plane *team = plane->team;
     const char *name = team->settings->carry;
     const uint8_t *mac = team->settings->config.mac;
@@ -215,7 +214,7 @@ static void open_team_or_stop(struct plane *plane) {
     need(load_team_driver(&team->family), "plane=team: this kernel has no team driver");
     need(on_exit(release_team, team) == 0, "on_exit");
     team->opened = true;
-    if (drop_tap_and_find(team->process, name, &device)) {
+    if (drop_tap_and_find(&team->process->store, team->process->inherited, name, &device)) {
         adopt_device_or_stop(team, &device, mac);
     } else {
         need(make_team_device(name, mac, least_mtu(team->settings)) && ask_interface(0, name, &device), name);
@@ -247,9 +246,10 @@ static int unshare_and_check_team(struct printer *printer, struct plane *plane, 
 }
 
 const struct carrying TEAM_DEVICE = {
-    .open = open_team_or_stop, .end = end_team_plane, .lose_device = lose_device, .leave = leave_team, .give_carrier = give_team_carrier,
-    .add = open_team_port, .remove = close_team_port, .see_port = is_still_team_port, .settle = settle_team, .tick = pass_tick_of_team,
-    .keeps_aggregator = heard_peer_lately, .frames_heard = team_frames_received, .resume = resume_conversations, .go_on = choose_ports_and_tell_host,
+    .open = drop_tap_and_open_team_or_stop, .end = end_team_plane, .lose_device = lose_device_and_end, .leave = leave_team,
+    .give_carrier = give_team_carrier, .add = open_team_port, .remove = close_team_port, .see_port = ask_whether_still_team_port,
+    .settle = settle_team, .tick = pass_tick_of_team, .keeps_aggregator = heard_peer_lately,
+    .frames_heard = look_at_buckets_and_frames_received, .resume = resume_conversations_or_end, .go_on = choose_ports_and_tell_host,
     .member_of = bucket_member_of, .end_resuming = release_former_members, .check = unshare_and_check_team, .show = show_carry,
     .show_member = show_member, .show_waiting = show_waiting_buckets, .first_count = MOVES, .end_count = WOKEN + 1, .administers = true,
     .nameless = "",

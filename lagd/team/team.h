@@ -68,7 +68,7 @@ size_t make_team_hash(const struct settings *settings, struct sock_filter steps[
 /* team.c */
 extern const struct carrying TEAM_DEVICE;
 void give_addresses_or_lose_members(struct team_plane *team);
-void take_out_of_team(const struct team_plane *team, int index);
+void take_out_of_team_and_bring_up(const struct team_plane *team, int index);
 
 /* buckets.c */
 void start_buckets(struct team_plane *team);
@@ -76,7 +76,7 @@ void settle_team(struct plane *plane);
 void pass_tick_of_team(struct plane *plane);
 void forget_port(struct team_plane *team, uint16_t port);
 int bucket_member_of(const struct plane *plane, uint16_t number);
-uint64_t team_frames_received(struct plane *plane, bool looks);
+uint64_t look_at_buckets_and_frames_received(struct plane *plane, bool looks);
 unsigned count_waiting_buckets(const struct team_plane *team);
 
 #endif

@@ -23,7 +23,7 @@ int main(int argc, char **argv) {
             const char digits[] = {line[2 * i], line[2 * i + 1], 0};
             frame[i] = (uint8_t)strtoul(digits, NULL, 16);
         }
-        if (frame) printf("%u\n", (unsigned)conversation_of(&lagd->protocol, frame, length).number);
+        if (frame) printf("%u\n", (unsigned)conversation_of(&lagd->core, frame, length).number);
         free(frame);
     }
     return 0;

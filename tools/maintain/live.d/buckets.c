@@ -135,9 +135,9 @@ bool read_team(uint16_t family, int index, struct team_now *now) {
 /* What the daemon has beside. */
 ANSWERS(uint64_t milliseconds, lagd->carry.time, void)
 NOTHING(give_addresses_or_lose_members, struct team_plane *team)
-NOTHING(begin_carry_tick_and_announce, struct carry *carry)
+NOTHING(begin_carry_tick_and_announce, struct printer *printer, struct device *device, uint64_t *time, struct announce *announce)
 NOTHING(note_heard, struct carry *carry)
-NOTHING(end_carry_tick_and_wake_ports, struct carry *carry)
+NOTHING(end_carry_tick_and_restart_ports, struct carry *carry)
 NOTHING(count_and_forget_heard, struct carry *carry)
 void set_carrier(struct device *device, bool on) {
     carrier = on;

@@ -70,7 +70,7 @@ static void remove_folder(void) {
 
 /* A system of two ports, whose links are up, and its status socket. */
 static void make_ports(void) {
-    lagd = make_lagd();
+    lagd = make_lagd_or_stop();
     lagd->settings = usual_settings();
     lagd->settings.policy = PARTNER_FIRST;
     strcpy(lagd->settings.name, "fuzz");
@@ -80,7 +80,7 @@ static void make_ports(void) {
     make_ports_and_system_or_stop(&lagd->protocol);
     if (!mkdtemp(folder) || socketpair(AF_UNIX, SOCK_DGRAM | SOCK_NONBLOCK, 0, wire) < 0) abort();
     (void)atexit(remove_folder);
-    lagd->process.folder = open_status_folder_or_stop(folder);
+    lagd->process.folder = open_or_make_status_folder_or_stop(folder);
     open_status_or_stop(&lagd->process, folder);
     lagd->process.has_started = true;
     set_link_send_and_tell(&lagd->protocol, &lagd->ports.links[0], true);
@@ -93,7 +93,7 @@ static void fuzz_file(const uint8_t *octets, size_t length) {
     int file = memfd_create("fuzz", MFD_CLOEXEC);
     if (file >= 0 && write(file, octets, length) == (ssize_t)length) {
         snprintf(path, sizeof path, "/proc/self/fd/%d", file);
-        (void)read_bundle_file(&lagd->process, path, &read);
+        (void)read_bundle_file(&lagd->process.printer, &lagd->process.words, path, &read);
     }
     close(file);
 }
@@ -158,7 +158,7 @@ static void fuzz_state(const uint8_t *octets, size_t length) {
     recall_state_and_leave_other_device(&lagd->state);
     (void)unlink(name);
     lagd->process.resuming = has_carried_links(&lagd->inherited);
-    resume_data(&lagd->protocol, resume(&lagd->protocol));
+    resume_data(&lagd->protocol, resume(&lagd->core, &lagd->protocol, &lagd->ports));
     bring_up_others_and_send(&lagd->protocol);
 }
 

@@ -255,7 +255,7 @@ ANSWERS(uint32_t count_segments, 1, const uint8_t *packet, size_t length)
 bool has_right_length(const uint8_t *packet, size_t length, uint32_t mtu) {
     return length <= mtu + ETH_HLEN;
 }
-struct niw_number conversation_of(struct protocol *protocol, const uint8_t *frame, size_t length) {
+struct niw_number conversation_of(struct core *core, const uint8_t *frame, size_t length) {
     return (struct niw_number){.status = NIW_OK, .number = conversation_at(frame)};
 }
 
@@ -271,7 +271,7 @@ static void accept_any(struct tap_plane *tap, struct link *link, const struct ar
 /* and what is not here: the settings of the device. */
 NOTHING(count_full_sockets, struct member *members, uint16_t count)
 NOTHING(pass_announcing_tick, struct printer *printer, struct announce *own, const struct device *device)
-NOTHING(pass_tap_tick, struct device *device)
+NOTHING(pass_tap_tick, struct printer *printer, unsigned *carrier_ticks, const struct device *device)
 NOTHING(announce_soon, struct announce *own)
 ANSWERS(uint32_t sum_speeds, 1000, const struct carry *carry, const struct member *members)
 NOTHING(set_speed, struct device *device, uint32_t megabits)
@@ -279,8 +279,8 @@ NOTHING(set_speed, struct device *device, uint32_t megabits)
 ANSWERS(uint16_t count_links, PORTS, const struct ports *ports)
 NOTHING(write_report_and_tell_watchers, struct core *core, const struct control *control, const struct link *link)
 /* The plane: frames come here alone, and members have one queue. */
-static const struct carrying FRAMES = {.settle = choose_move_and_send, .tick = pass_tick_of_frames, .keeps_aggregator = heard_peer_lately,
-    .frames_heard = frames_handed_up, .tell_host = set_speed_and_carrier, .go_on = settle_carry,
+static const struct carrying FRAMES = {.settle = choose_move_and_send, .tick = pass_data_tick_and_restart_ports, .keeps_aggregator = heard_peer_lately,
+    .frames_heard = sum_frames_heard_and_follow_peer, .tell_host = set_speed_and_carrier, .go_on = settle_carry_or_lose_member,
     .note_response = note_response};
 static const struct passing BY_DAEMON = {0};
 static const struct queueing OF_ONE_QUEUE = {.accept_response = accept_any, .answer = answer, .markers_at_once = 1};
@@ -295,7 +295,7 @@ static void set_link_of(struct end *end, uint16_t port, bool up) {
     end->lagd.plane.changed = true;
     send_due(&end->lagd.protocol);
     read_views_and_count(&end->lagd.core, &end->lagd.ports);
-    settle_carry(&end->lagd.plane);
+    settle_carry_or_lose_member(&end->lagd.plane);
 }
 
 static void make_end(struct end *end, uint8_t which) {
@@ -378,7 +378,7 @@ static void take(struct end *end, uint16_t port, uint8_t *frame, size_t length) 
         if (is_done(&lagd->core, received.status, "niw_receive") && received.what == NIW_RECEIVED_HANDED_UP)
             hand_up_or_follow_peer_and_tell(&lagd->tap, received.number, frame, length);
     }
-    settle_carry(&lagd->plane);
+    settle_carry_or_lose_member(&lagd->plane);
 }
 
 /* Takes what has come by a cable. */
@@ -426,7 +426,7 @@ static void hold(struct end *end, uint16_t port, bool held) {
     read_views_and_count(&end->lagd.core, &end->lagd.ports);
     end->lagd.plane.changed = true;
     send_due(&end->lagd.protocol);
-    settle_carry(&end->lagd.plane);
+    settle_carry_or_lose_member(&end->lagd.plane);
     events++;
 }
 
@@ -460,7 +460,7 @@ static void pass_time(struct end *end, unsigned ticks) {
     send_due(&lagd->protocol);
     read_views_and_count(&lagd->core, &lagd->ports);
     choose_and_tell_bundle(&lagd->protocol);
-    settle_carry(&lagd->plane);
+    settle_carry_or_lose_member(&lagd->plane);
     CHECK(!end->carrier || any_distributes(lagd));
 }
 
@@ -488,7 +488,7 @@ static void happen(struct end *end) {
     uint16_t port = (uint16_t)(1 + below(PORTS));
     if (what < weather.burst) send_burst(end, what < 20 ? BATCH : 6);
     for (bool more = below(1000) < weather.changes; more; more = below(2) == 0) change_cable((uint16_t)(1 + below(PORTS)));
-    if (what >= 710 && what < 713) ask_moves(&end->lagd.carry);
+    if (what >= 710 && what < 713) mark_busy_to_move(&end->lagd.carry);
     if (what == 720) end->mute_until = now + below(20000);
     if (what == 721) end->mute_until = 0;
     if (what == 722) end->short_until = now + below(300);

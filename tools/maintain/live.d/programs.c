@@ -91,7 +91,7 @@ static void print_conversations(const uint8_t *frame, size_t length) {
     bool is_tagged = length >= ETH_HLEN + TAG_OCTETS && ((frame[12] == 0x81 && frame[13] == 0) || (frame[12] == 0x88 && frame[13] == 0xa8));
     int found = run(sender, frame, length) == REFUSED_FRAME ? -1 : counted_row();
     if (is_tagged && run_beside(frame, length) != REFUSED_FRAME && counted_row() != found && found >= 0) found = -2;
-    printf("%u %d\n", (unsigned)conversation_of(&lagd->protocol, frame, length).number, found);
+    printf("%u %d\n", (unsigned)conversation_of(&lagd->core, frame, length).number, found);
 }
 
 static int print_all(void) {

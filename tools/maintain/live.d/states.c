@@ -60,13 +60,13 @@ pid_t __wrap_fork(void) {
 
 /* A daemon with a port that carries, whose interface goes by the name of one that is there, and a port whose interface is missing. */
 static void make_daemon(void) {
-    lagd = make_lagd();
+    lagd = make_lagd_or_stop();
     lagd->settings = usual_settings();
     strcpy(lagd->settings.name, "states");
     strcpy(lagd->settings.state_dir, folder);
     lagd->settings.config.mac[0] = 2;
     if (add_port(&lagd->settings, "lo", 2) || add_port(&lagd->settings, "gone", 4)) abort();
-    lagd->process.folder = open_status_folder_or_stop(folder);
+    lagd->process.folder = open_or_make_status_folder_or_stop(folder);
     lagd->process.printer.output = open("/dev/null", O_WRONLY);
     broken = open("/proc/self/mem", O_RDONLY);
     recall_state_and_leave_other_device(&lagd->state);
