@@ -65,7 +65,7 @@ static void enter_state_run_hook_and_tell_all(struct core *core, struct bundle *
 void choose_and_tell_bundle(struct protocol *protocol) {
     struct bundle now = protocol->bundle;
     if (!protocol->process->has_started || (now.lines_left == 0 && !protocol->halt.down)) return;
-    choose_aggregator(protocol, &now);
+    choose_aggregator(protocol->core, &protocol->choice, protocol, &now);
     now.links = count_links(protocol->ports);
     uint16_t limit = protocol->settings->config.max_links, most = limit > 0 && limit < now.links ? limit : now.links;
     now.state = now.carrying < protocol->settings->min_links ? BUNDLE_DOWN : now.carrying < most ? BUNDLE_DEGRADED : BUNDLE_UP;

@@ -96,7 +96,7 @@ void choose_ports_and_tell_host(struct plane *plane) {
     struct bundle now = {0};
     uint16_t before = carry->active;
     read_views_and_count(carry->core, carry->ports);
-    choose_aggregator(carry->protocol, &now);
+    choose_aggregator(carry->core, &carry->protocol->choice, carry->protocol, &now);
     carry->active = now.carrying >= carry->settings->min_links ? now.aggregator : 0;
     note_partners_to_collect(carry->to_collect_since, carry->ports, carry->time);
     carry->active_count = list_active_ports(carry, false, carry->active_ports);
@@ -164,9 +164,10 @@ static void restart_port_on_defaults(struct carry *carry, const struct link *lin
     carry->counts[WOKEN]++;
 }
 
-void begin_carry_tick_and_announce(struct printer *printer, struct device *device, uint64_t *time, struct announce *announce) {
+void begin_carry_tick_and_announce(struct printer *printer, uint64_t *time, unsigned *carrier_ticks, struct announce *announce,
+    const struct device *device) {
     *time = milliseconds();
-    pass_tap_tick(printer, &device->carrier_ticks, device);
+    pass_tap_tick(printer, carrier_ticks, device);
     pass_announcing_tick(printer, announce, device);
 }
 

@@ -217,12 +217,12 @@ struct store {
  *
  *   printer            what is told: a line is printed, in the journal, too, and watchers get it
  *   core               the library's state. Where the library refuses a call a line says so, the peers are told, and the daemon ends
- *   link               what its sockets do: a frame goes, the kernel is asked for the interface
+ *   link               what its sockets do: a frame goes, or the kernel refuses it, which is noted; and it is asked for the interface
  *   process            the files of the daemon, and what the manager of services keeps
  *   device             the device of the host in the kernel: its carrier, MTU, speed
  *   carry, plane, tap_plane, team_plane
  *                      data: frames go, wait and are handed up, conversations move, another aggregator is chosen, and the kernel gets what it
- *                      is to do with frames, members and the device
+ *                      is to do with frames, members and the device. Where it does not take back what it passes on, the daemon ends
  *   protocol           all that LACP does: LACPDUs that are due go, interfaces are taken up and released, what the kernel tells is followed, the
  *                      plane learns of it, and so do the manager of services, watchers and the hook
  *
@@ -568,7 +568,7 @@ struct worth { /* of an aggregator, by the ports that carry there */
 struct worth worth_of(const struct protocol *protocol, uint16_t aggregator);
 uint64_t patience_with(const struct protocol *protocol, uint16_t active, uint16_t other);
 void follow_peer(struct core *core, struct choice *own, const struct protocol *protocol, uint16_t aggregator);
-void choose_aggregator(struct protocol *protocol, struct bundle *now);
+void choose_aggregator(struct core *core, struct choice *own, const struct protocol *protocol, struct bundle *now);
 bool is_as_good_as_any(struct core *core, const struct protocol *protocol, uint16_t aggregator);
 
 /* bundle.c */

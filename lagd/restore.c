@@ -5,7 +5,7 @@
 static bool choose_and_find_few(struct protocol *protocol) {
     struct bundle now = {0};
     unsigned sure = 0;
-    choose_aggregator(protocol, &now);
+    choose_aggregator(protocol->core, &protocol->choice, protocol, &now);
     EACH_LINK(link, protocol->ports)
         sure += now.aggregator != 0 && link->view.aggregator == now.aggregator && carries(protocol, link) && !link->view.defaulted;
     return sure < protocol->settings->min_links;

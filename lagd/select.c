@@ -74,12 +74,11 @@ static uint16_t aggregator_after(struct core *core, const struct protocol *proto
 /* Chooses the aggregator whose ports carry, and remembers it. By count the one that is kept stays among equals, whoever calls; else, of equals, it
  * is the one with the least group, so that the other end chooses it, too. Otherwise best_after chooses, and one in which the peer alone sends is
  * chosen as long as it carries. */
-void choose_aggregator(struct protocol *protocol, struct bundle *now) {
-    struct choice *own = &protocol->choice;
+void choose_aggregator(struct core *core, struct choice *own, const struct protocol *protocol, struct bundle *now) {
     struct worth followed = worth_of(protocol, own->followed);
     bool stays = protocol->settings->select == SELECT_PRIORITY_STABLE || ASK(protocol->plane->carrying->keeps_aggregator, true, protocol->plane);
     if (protocol->settings->select == SELECT_COUNT || !followed.has_partner || followed.links < protocol->settings->min_links) own->followed = 0;
-    own->last = now->aggregator = own->followed != 0 ? own->followed : aggregator_after(protocol->core, protocol, stays ? own->last : 0);
+    own->last = now->aggregator = own->followed != 0 ? own->followed : aggregator_after(core, protocol, stays ? own->last : 0);
     now->carrying = worth_of(protocol, now->aggregator).links;
 }
 

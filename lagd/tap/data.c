@@ -139,10 +139,10 @@ void choose_move_and_send(struct plane *plane) {
 
 void pass_data_tick_and_restart_ports(struct plane *plane) {
     struct tap_plane *tap = plane->tap;
-    begin_carry_tick_and_announce(tap->core->printer, tap->device, &tap->carry->time, &tap->carry->announce);
+    begin_carry_tick_and_announce(tap->core->printer, &tap->carry->time, &tap->device->carrier_ticks, &tap->carry->announce, tap->device);
     CALL(plane->passing->tick, tap);
     note_heard(tap->carry);
-    pass_flight_tick(tap);
+    pass_flight_tick_and_send_markers(tap);
     count_full_sockets(tap->members, tap->ports->count);
     CALL(plane->queueing->watch, tap);
     end_carry_tick_and_restart_ports(tap->carry);

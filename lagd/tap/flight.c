@@ -74,7 +74,7 @@ static void drop_old_force_or_rest(struct carry *carry, struct held *held, uint1
         free_conversation(carry, conversation, number, false);
 }
 
-void pass_flight_tick(struct tap_plane *tap) {
+void pass_flight_tick_and_send_markers(struct tap_plane *tap) {
     uint64_t again = 0;
     for (uint16_t number = 0; !tap->core->broken && number < CONVERSATIONS; number++) drop_old_force_or_rest(tap->carry, &tap->held, number, &again);
     if (tap->core->broken) return;

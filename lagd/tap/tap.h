@@ -172,7 +172,7 @@ void hand_up_or_follow_peer_and_tell(struct tap_plane *tap, uint32_t aggregator,
 void pass_probe_tick(struct tap_plane *tap);
 
 /* flight.c */
-void pass_flight_tick(struct tap_plane *tap);
+void pass_flight_tick_and_send_markers(struct tap_plane *tap);
 
 /* queues.c: by which queue of its member a conversation goes, and the markers of each queue */
 bool note_queue_response(struct queues *queues, uint32_t *id);

@@ -173,7 +173,7 @@ static void place_and_set_carrier_or_lose_members(struct team_plane *team) {
     if (carry->active != 0) set_carrier(team->device, true);
 }
 
-void settle_team(struct plane *plane) {
+void settle_team_or_lose_members(struct plane *plane) {
     struct carry *carry = plane->carry;
     uint16_t before = carry->active;
     choose_ports_and_tell_host(plane);
@@ -208,7 +208,7 @@ unsigned count_waiting_buckets(const struct team_plane *team) {
 
 void pass_tick_of_team(struct plane *plane) {
     struct team_plane *team = plane->team;
-    begin_carry_tick_and_announce(team->core->printer, team->device, &team->carry->time, &team->carry->announce);
+    begin_carry_tick_and_announce(team->core->printer, &team->carry->time, &team->device->carrier_ticks, &team->carry->announce, team->device);
     unsigned waiting = count_waiting_buckets(team);
     if (team->carry->time - team->looked_at >= (waiting > 0 ? LOOKED_WAITING : LOOKED_EVERY)) look_at_driver(team);
     if (waiting > 0) rest_silent_conversations(team->core, team, &team->carry->counts[RESTED]);

@@ -23,7 +23,7 @@ static bool make_device_to_try_mode(uint16_t family) {
 }
 
 /* The lowest MTU of the interfaces that are there: the driver gives its ports that of the device. */
-static uint32_t least_mtu(const struct settings *settings) {
+static uint32_t read_least_mtu(const struct settings *settings) {
     uint32_t least = 0;
     for (uint16_t i = 0; i < settings->port_count; i++) {
         struct interface member;
@@ -217,7 +217,7 @@ static void drop_tap_and_open_team_or_stop(struct plane *plane) {
     if (drop_tap_and_find(&team->process->store, team->process->inherited, name, &device)) {
         adopt_device_or_stop(team, &device, mac);
     } else {
-        need(make_team_device(name, mac, least_mtu(team->settings)) && ask_interface(0, name, &device), name);
+        need(make_team_device(name, mac, read_least_mtu(team->settings)) && ask_interface(0, name, &device), name);
         lock_device_or_stop(team, device.index); /* another one may have taken it at once */
         plane->owns_device = plane->is_new = true;
         use_team_device_or_stop(team->device, device.index);
@@ -227,7 +227,7 @@ static void drop_tap_and_open_team_or_stop(struct plane *plane) {
     start_buckets(team);
 }
 
-static void end_team_plane(struct plane *plane) {
+static void take_out_ports_and_end_team_plane(struct plane *plane) {
     struct team_plane *team = plane->team;
     set_carrier(team->device, false);
     remove_all_members(plane, team->ports);
@@ -246,9 +246,9 @@ static int unshare_and_check_team(struct printer *printer, struct plane *plane, 
 }
 
 const struct carrying TEAM_DEVICE = {
-    .open = drop_tap_and_open_team_or_stop, .end = end_team_plane, .lose_device = lose_device_and_end, .leave = leave_team,
+    .open = drop_tap_and_open_team_or_stop, .end = take_out_ports_and_end_team_plane, .lose_device = lose_device_and_end, .leave = leave_team,
     .give_carrier = give_team_carrier, .add = open_team_port, .remove = close_team_port, .see_port = ask_whether_still_team_port,
-    .settle = settle_team, .tick = pass_tick_of_team, .keeps_aggregator = heard_peer_lately,
+    .settle = settle_team_or_lose_members, .tick = pass_tick_of_team, .keeps_aggregator = heard_peer_lately,
     .frames_heard = look_at_buckets_and_frames_received, .resume = resume_conversations_or_end, .go_on = choose_ports_and_tell_host,
     .member_of = bucket_member_of, .end_resuming = release_former_members, .check = unshare_and_check_team, .show = show_carry,
     .show_member = show_member, .show_waiting = show_waiting_buckets, .first_count = MOVES, .end_count = WOKEN + 1, .administers = true,

@@ -72,7 +72,7 @@ void take_out_of_team_and_bring_up(const struct team_plane *team, int index);
 
 /* buckets.c */
 void start_buckets(struct team_plane *team);
-void settle_team(struct plane *plane);
+void settle_team_or_lose_members(struct plane *plane);
 void pass_tick_of_team(struct plane *plane);
 void forget_port(struct team_plane *team, uint16_t port);
 int bucket_member_of(const struct plane *plane, uint16_t number);
