@@ -1,9 +1,9 @@
 """Wrong bodies that one check of a crate refuses, so that a check is not made for each.
 
 A function's proof knows of other functions what their contracts say, and whom they call, but not their bodies. So of wrong bodies of different functions
-each is refused, or not, as it would be alone; no edit adds a call that another one's would close to a cycle. Where what the prover says is not that plain
-an edit is left to be tried alone: where an error is of a function that no edit changes, the prover cannot read all or gives no verdict, and what is not
-within a body.
+each is refused, or not, as it would be alone; no edit adds a call that another one's would close to a cycle. So is each wrong statement of a law, which is
+a function with nothing in its body, where nothing else names the law. Where what the prover says is not that plain an edit is left to be tried alone: where
+an error is of a function that no edit changes, or the prover cannot read all, or gives no verdict; and so is each other edit.
 """
 
 from __future__ import annotations
@@ -13,6 +13,8 @@ import re
 import shutil
 import subprocess
 import tempfile
+from collections import Counter
+from functools import lru_cache
 from typing import Any, Iterable, NamedTuple, Sequence
 
 from edits import Trial, replaced, write
@@ -40,7 +42,7 @@ OF_GOAL = re.compile(
 
 class Function(NamedTuple):
     """A function of a file: its name, the line of the `impl` that has it, "" without one, its first line, that of the brace that opens its body, and that
-    of the one that closes it; from 1 on."""
+    of the one that closes it; from 1 on. A law has both in one line."""
 
     name: str
     impl: str
@@ -57,13 +59,13 @@ class Place(NamedTuple):
 
 
 def functions(text: str) -> list[Function]:
-    """The functions of a file that `rt fmt` wrote, but for those whose body stands in one line, and those without one."""
+    """The functions of a file that `rt fmt` wrote, but for those without a body, and those that have one in the line of something else."""
     lines, found = text.splitlines(), []
     starts = [(at, it) for at, line in enumerate(lines) if (it := FUNCTION.match(line))]
     for number, (at, it) in enumerate(starts):
         until = starts[number + 1][0] if number + 1 < len(starts) else len(lines)
-        opens = next((n for n in range(at, until) if re.fullmatch(rf"{it[1]}(?:\S.*)?\{{", lines[n])), None)
-        closes = None if opens is None else next((n for n in range(opens + 1, len(lines)) if lines[n] == it[1] + "}"), None)
+        opens = next((n for n in range(at, until) if re.fullmatch(rf"{it[1]}((?:\S.*)?\{{|\{{\}})", lines[n])), None)
+        closes = opens if opens is None or lines[opens].endswith("}") else next((n for n in range(opens + 1, len(lines)) if lines[n] == it[1] + "}"), None)
         if opens is not None and closes is not None:
             impl = next((line for line in reversed(lines[:at]) if line[:1].strip()), "") if it[1] else ""
             found.append(Function(it[2], impl, at + 1, opens + 1, closes + 1))
@@ -84,14 +86,36 @@ def changes(crate: str, trial: Trial) -> dict[str, dict[int, str]]:
     return {os.path.relpath(path, crate): {number: new for number, (old, new) in enumerate(its, 1) if old != new} for path, its in rows.items()}
 
 
+@lru_cache(maxsize=None)
+def named(crate: str) -> Counter[str]:
+    """How often the sources and proofs of a crate have each word, but for comments and imports of sources, and what the proof of a function says of
+    itself."""
+    found = Counter[str]()
+    for at, _, files in os.walk(crate):
+        for file in files:
+            if file.endswith(".rt"):
+                text = re.sub(r"//.*", "", read_text(os.path.join(at, file)))
+                found.update(re.findall(r"\w+", re.sub(r"^ *(pub )?use [^;]*;", "", text, flags=re.M)))
+            elif file.endswith(".antt"):
+                within = at.split(os.sep)
+                found.update(it for it in re.findall(r"\w+", read_text(os.path.join(at, file))) if it not in within)
+    return found
+
+
+def is_changed(crate: str, function: Function, line: int) -> bool:
+    """Whether a line is of what only the proof of this function knows: of its body, or of the statement of a law that nothing else names."""
+    is_law = function.opens == function.closes and named(crate)[function.name] == 1
+    return function.opens < line < function.closes or is_law and function.first < line < function.opens
+
+
 def places(crate: str, trial: Trial) -> set[Place]:
-    """The functions whose bodies an edit changes; none where it changes anything else, or cannot be made."""
+    """The functions whose bodies, or statements of laws, an edit changes; none where it changes anything else, or cannot be made."""
     found = set()
     for file, lines in changes(crate, trial).items():
         within = functions(read_text(os.path.join(crate, file))) if file.startswith("src/") else []
         for line in lines:
             function = around(within, line)
-            if function is None or not function.opens < line < function.closes:
+            if function is None or not is_changed(crate, function, line):
                 return set()
             found.add(Place(file, function.first))
     return found

@@ -43,7 +43,17 @@ pub(crate) const fn last(
 ) -> u8 {
     a - 3
 }
+
+pub fn holds()
+    ensures always { 1 ≡ 1 }
+{}
+
+pub fn told()
+    ensures always { 2 ≡ 2 }
+{}
 """
+# In another file, which imports one law, and has another one of the name of the second.
+OTHER = SOURCE.replace("use std::fmt;", "pub use crate::a::holds; // holds").replace("for First", "for Second").replace("fn holds()", "fn stays()")
 PAIRS = {
     "of_first": (("src/a.rt", "let inner = 1;", "let inner = 2;"),),
     "of_first_again": (("src/a.rt", "    a + inner", "    a"),),
@@ -51,6 +61,9 @@ PAIRS = {
     "of_last": (("src/a.rt", "    a - 3", "    fn helped() {} a - 5"),),
     "of_a_contract": (("src/a.rt", "result ≡ a", "result ≡ 0"),),
     "of_one_line": (("src/a.rt", "{ 9 }", "{ 8 }"),),
+    "of_a_law": (("src/a.rt", "1 ≡ 1", "1 ≡ 3"),),
+    "of_a_law_that_has_another_name": (("src/a.rt", "holds()", "heard()"), ("src/a.rt", "1 ≡ 1", "1 ≡ 4")),
+    "of_a_law_that_is_named": (("src/a.rt", "2 ≡ 2", "2 ≡ 3"),),
     "of_a_definition": (("specs/A.antt", "a", "b"),),
     "of_nothing": (("src/a.rt", "a", "b"),),
     "of_a_text_that_stands_twice_first": (("src/a.rt", "let inner = 1;", "let outer = 1;"), ("src/a.rt", "inner", "outer")),
@@ -63,20 +76,22 @@ def crate(tmp_path: Path) -> str:
     (tmp_path / "src").mkdir()
     (tmp_path / "src" / "a.rt").write_text(SOURCE)
     (tmp_path / "src" / "b").mkdir()
-    (tmp_path / "src" / "b" / "c.rt").write_text(SOURCE.replace("for First", "for Second"))
+    (tmp_path / "src" / "b" / "c.rt").write_text(OTHER)
+    (tmp_path / "proofs" / "a" / "holds").mkdir(parents=True)
+    (tmp_path / "proofs" / "a" / "holds" / "Answers.antt").write_text("use proofs.a.holds.Goals as goal")
     return str(tmp_path)
 
 
 def test_functions_have_a_body_of_lines() -> None:
     found = [(it.name, it.first, it.opens, it.closes) for it in batches.functions(SOURCE)]
-    assert found == [("first", 3, 7, 10), ("name", 17, 17, 22), ("last", 29, 31, 33)]
+    assert found == [("first", 3, 7, 10), ("name", 17, 17, 22), ("last", 29, 31, 33), ("holds", 35, 37, 37), ("told", 39, 41, 41)]
     around = [batches.around(batches.functions(SOURCE), line) for line in (2, 3, 8, 11, 20, 26, 32)]
     assert [it and it.name for it in around] == [None, "first", "first", None, "name", None, "last"]
 
 
 def test_edits_of_different_bodies_are_tried_together(crate: str) -> None:
     tried = [[it.name for it in batch] for batch in batches.batches(crate, TRIALS.values())]
-    assert tried == [["of_first", "of_both"], ["of_first_again", "of_last"], ["of_a_text_that_stands_twice_first"]]
+    assert tried == [["of_first", "of_both", "of_a_law"], ["of_first_again", "of_last"], ["of_a_text_that_stands_twice_first"]]
 
 
 def test_what_is_edited_stays_in_its_line(crate: str) -> None:
