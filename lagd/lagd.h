@@ -218,7 +218,7 @@ struct store {
  *   printer            what is told: a line is printed, in the journal, too, and watchers get it
  *   core               the library's state. Where the library refuses a call a line says so, the peers are told, and the daemon ends
  *   link               what its sockets do: a frame goes, or the kernel refuses it, which is noted; and it is asked for the interface
- *   process            the files of the daemon, and what the manager of services keeps
+ *   process            the files of the daemon, and what the manager of services keeps, which a `struct store` has
  *   device             the device of the host in the kernel: its carrier, MTU, speed
  *   carry, plane, tap_plane, team_plane
  *                      data: frames go, wait and are handed up, conversations move, another aggregator is chosen, and the kernel gets what it
@@ -226,8 +226,8 @@ struct store {
  *   protocol           all that LACP does: LACPDUs that are due go, interfaces are taken up and released, what the kernel tells is followed, the
  *                      plane learns of it, and so do the manager of services, watchers and the hook
  *
- * A name says which of it a function does. By one with `_or_end` the daemon may end in order, by one with `_or_stop` at once, too. What is only shown
- * is asked of the library with const, too. */
+ * A name says which of it a function does. By one with `_or_end` the daemon may end in order, and what the kernel runs for it is detached then; by
+ * one with `_or_stop` it may end at once, too. What is only shown is asked of the library with const, too. */
 
 /* What prints lines. */
 struct printer {

@@ -173,7 +173,7 @@ static void read_operands_or_stop(struct words *words, struct options *options, 
     strcpy(settings->name, settings->ports[0].name);
 }
 
-static void read_letters_or_stop(struct words *words, struct options *options, int argc, char **argv) {
+static void read_letters_look_for_hook_or_stop(struct words *words, struct options *options, int argc, char **argv) {
     struct option names[OPTION_ROOM + 1] = {{NULL, 0, NULL, 0}};
     char letters[2 * OPTION_ROOM + 1] = "";
     size_t count = 0, length = 0;
@@ -192,7 +192,7 @@ static void read_letters_or_stop(struct words *words, struct options *options, i
 void read_options_and_file_or_stop(struct process *process, int argc, char **argv, struct options *options) {
     static const unsigned no_lines[MOST_BUNDLE_KEYS];
     *options = (struct options){.folder = "/run/lagd", .settings = usual_settings()};
-    read_letters_or_stop(&process->words, options, argc, argv);
+    read_letters_look_for_hook_or_stop(&process->words, options, argc, argv);
     bool has_keys = memcmp(options->settings.lines, no_lines, sizeof no_lines) != 0;
     if (options->json && options->action != SHOW && options->action != WATCH)
         stop(WRONG_WORD, "usage", "lagd --status --json, or lagd --watch --json");

@@ -70,7 +70,7 @@ static void change_policy(struct settings *now, struct ports *ports, const struc
 }
 
 /* A port is another one than it was: it goes, comes or changes. Answers whether anything differs. */
-static bool join_leave_or_change_port(struct protocol *protocol, uint16_t port, const struct settings *wanted) {
+static bool join_leave_or_change_port_and_drain(struct protocol *protocol, uint16_t port, const struct settings *wanted) {
     struct link *link = &protocol->ports->links[port - 1];
     bool was_leaving = link->leaving, is_wanted = wanted->ports[port - 1].name[0] != 0;
     if (!link->used && (!is_wanted || !has_aggregator(&protocol->keys, port_of(wanted, port).key))) return false;
@@ -104,7 +104,7 @@ static unsigned apply_settings(struct protocol *protocol, const struct settings 
     now->port_priority = wanted->port_priority;
     if (has_aggregator(&protocol->keys, wanted->key)) now->key = wanted->key;
     change_policy(now, protocol->ports, wanted);
-    for (uint16_t port = 1; port <= protocol->ports->slots; port++) changed += join_leave_or_change_port(protocol, port, wanted);
+    for (uint16_t port = 1; port <= protocol->ports->slots; port++) changed += join_leave_or_change_port_and_drain(protocol, port, wanted);
     limit_links(protocol, wanted->config.max_links);
     if (wanted->select != now->select) ask_links(&protocol->changes, protocol->ports); /* for their speeds */
     for (const struct key *key = BUNDLE_KEYS; key->name; key++)

@@ -192,7 +192,7 @@ static bool may_pass(struct core *core, const struct tap_plane *tap, const struc
 }
 
 /* Waits for the programs. Where the kernel does so no longer, the peers are told, and the daemon ends. */
-static void wait_or_end(struct tap_plane *tap) {
+static void wait_or_detach_and_end(struct tap_plane *tap) {
     if (wait_for_programs()) return;
     (void)say(tap->core->printer, LOG_ERR | ABOUT_DATA, "fast: the kernel waits no longer for its programs: %s; "
         "the peers are told, and the daemon ends",
@@ -207,7 +207,7 @@ static void wait_and_withdraw_or_end(struct tap_plane *tap) {
     EACH_CONVERSATION(conversation, tap->carry) {
         struct fast_row *row = row_of(tap, conversation);
         if (conversation->fast.port == 0 || (uint32_t)word_of(row) != 0) continue;
-        if (!waited) wait_or_end(tap);
+        if (!waited) wait_or_detach_and_end(tap);
         waited = true;
         tap->carry->counts[FROM_HOST] += count_passed(row, conversation->fast.port, tap->members, &conversation->used);
         conversation->fast.port = 0;
@@ -235,7 +235,7 @@ static void resume_fast_or_end(struct tap_plane *tap) {
             any = true;
         }
     }
-    if (any) wait_or_end(tap);
+    if (any) wait_or_detach_and_end(tap);
 }
 
 /* Takes back what is no longer on the port where the kernel passes it on, before a marker goes there; all, where the library does not tell. */
@@ -363,7 +363,7 @@ static void pass_fast_tick_or_end(struct tap_plane *tap) {
         subtract_segments(row, take_count(&row->overflowed), &conversation->fast.suspected);
         any = suspect_row(row, conversation->used, &conversation->fast) || any;
     }
-    if (any) wait_or_end(tap);
+    if (any) wait_or_detach_and_end(tap);
 }
 
 static int check_fast(struct printer *printer, struct plane *plane UNUSED, const struct options *options) {

@@ -90,8 +90,8 @@ static bool set_up_promiscuous_socket(int fd, int index, const struct guard *gua
 
 /* Opens a socket of a member; answers it, or -errno. One for all protocols has markers before the filters and bridges of an administrator,
  * which may take frames away there. Where the kernel hands up what comes, nothing comes by that for data. */
-static int open_socket_of_kind(struct store *store, const struct inherited *inherited, int epoll_file, int device_index, const struct link *link,
-    const struct guard *guard, enum socket_kind kind) {
+static int open_member_socket_in_promiscuous_mode(struct store *store, const struct inherited *inherited, int epoll_file, int device_index,
+    const struct link *link, const struct guard *guard, enum socket_kind kind) {
     int index = kind == MARKERS ? device_index : link->index;
     struct sockaddr_ll address = {.sll_family = AF_PACKET, .sll_protocol = htons(kind == DIRECT ? ETH_P_SLOW : ETH_P_ALL), .sll_ifindex = index};
     int fd = packet_socket(store, inherited, SOCKET_NAMES[kind], link->index, index, SOCK_RAW);
@@ -128,8 +128,8 @@ static void release_member(struct store *store, int folder, struct fast_programs
 /* Opens the sockets of a member whose programs run; answers 0, or -errno, and then it is no member any more. */
 static int open_sockets_or_release(struct tap_plane *tap, const struct link *link, struct member *member) {
     for (enum socket_kind kind = DATA; kind < (member->guard.fast ? SOCKETS : MARKERS); kind++) {
-        int opened = member->sockets[kind] = open_socket_of_kind(&tap->process->store, tap->process->inherited, tap->process->epoll_file,
-            tap->device->index, link, &member->guard, kind);
+        int opened = member->sockets[kind] = open_member_socket_in_promiscuous_mode(&tap->process->store, tap->process->inherited,
+            tap->process->epoll_file, tap->device->index, link, &member->guard, kind);
         if (opened >= 0) continue;
         release_member(&tap->process->store, tap->process->folder, &tap->fast, link, member);
         return opened;
@@ -166,7 +166,7 @@ static bool withdraw_and_renew_member_or_end(struct tap_plane *tap, struct link 
     return open_sockets_or_release(tap, link, member) == 0;
 }
 
-static bool tell_and_renew(struct tap_plane *tap, struct link *link) {
+static bool tell_and_renew_or_end(struct tap_plane *tap, struct link *link) {
     (void)say(tap->core->printer, LOG_NOTICE | ABOUT_DATA, "port %u %s: its queues were changed", link->settings.number, link->name);
     return withdraw_and_renew_member_or_end(tap, link);
 }
@@ -179,7 +179,7 @@ bool read_discipline_and_renew_or_end(struct plane *plane, struct link *link) {
     return ASK(plane->carrying->renew, true, plane, link);
 }
 
-static bool renew_for_discipline(struct plane *plane, struct link *link) {
+static bool renew_for_discipline_or_end(struct plane *plane, struct link *link) {
     struct tap_plane *tap = plane->tap;
     struct member *member = member_of(tap, link);
     if (!is_open(member)) return true;
@@ -203,11 +203,11 @@ static void move_kept_of_member(struct plane *plane, struct link *link, const ui
 }
 
 /* A queueing discipline of an interface changed: where each queue has one of the daemon, others may have put another one there, or taken theirs. */
-static bool follow_member_queues(struct tap_plane *tap, struct link *link) {
+static bool read_queues_and_renew_member_or_end(struct tap_plane *tap, struct link *link) {
     struct member *member = member_of(tap, link);
     bool kept = link->has_fifos ? all_queues_keep_order(link->index) : member->guard.in_order || !may_all_queues_keep_order(link->index);
     if (!is_open(member) || kept) return true;
-    return tell_and_renew(tap, link);
+    return tell_and_renew_or_end(tap, link);
 }
 
 /* Each second a member is taken up anew whose queues others changed, or that has the number of queues of the others by now. */
@@ -218,7 +218,7 @@ static void watch_queues_renew_or_lose_or_end(struct tap_plane *tap) {
         if (!is_open(member)) continue;
         bool changed = is_changed_by_others(seconds_since(tap->protocol->began), link, &member->guard);
         if (!changed && !(member->guard.unusual && choose_usual_queues(&tap->usual_queues, tap->members, tap->ports->count, member->guard.queues))) continue;
-        if (!(changed ? tell_and_renew(tap, link) : withdraw_and_renew_member_or_end(tap, link))) lose_link_and_ask_again(tap->protocol, link);
+        if (!(changed ? tell_and_renew_or_end(tap, link) : withdraw_and_renew_member_or_end(tap, link))) lose_link_and_ask_again(tap->protocol, link);
     }
 }
 
@@ -465,7 +465,7 @@ static int check_tap(struct printer *printer, struct plane *plane UNUSED, const 
 const struct carrying TAP_DEVICE = {
     .open = open_tap_plane_or_stop, .end = end_tap_plane, .lose_device = lose_device_and_end, .keep_device = set_tap_persistence,
     .leave = drop_tap_persistence, .give_carrier = give_tap_carrier, .settle_mtu = settle_tap_mtu, .add = open_member,
-    .remove = withdraw_and_release_member_or_end, .renew = renew_for_discipline, .move = move_kept_of_member, .follow_mtu = follow_member_mtu,
+    .remove = withdraw_and_release_member_or_end, .renew = renew_for_discipline_or_end, .move = move_kept_of_member, .follow_mtu = follow_member_mtu,
     .follow_speed = read_member_speed, .can_empty = can_empty, .empty = empty_port_and_send, .drain = drain_data_and_changes,
     .lose = withdraw_and_drop_answers, .forget = clear_counts_mtu_and_speed, .send_marker = withdraw_and_send_new_marker,
     .note_response = note_response, .settle = choose_move_and_send, .tick = pass_data_tick_and_restart_ports, .keeps_aggregator = heard_peer_lately,
@@ -486,6 +486,7 @@ static int check_all_queues(struct printer *printer, struct plane *plane UNUSED,
 
 const struct queueing ALL_QUEUES = {
     .check = check_all_queues, .start = start_all_queues_or_stop, .fifos_of = count_sending_queues, .set = set_all_queues,
-    .follow = follow_member_queues, .watch = watch_queues_renew_or_lose_or_end, .mark = mark_conversation, .send_marker = send_by_queues,
-    .accept_response = accept_response_of_queue, .answer = answer_later, .show = show_queues, .text = ", all queues", .markers_at_once = MARKERS_AT_ONCE,
+    .follow = read_queues_and_renew_member_or_end, .watch = watch_queues_renew_or_lose_or_end, .mark = mark_conversation,
+    .send_marker = send_by_queues, .accept_response = accept_response_of_queue, .answer = answer_later, .show = show_queues, .text = ", all queues",
+    .markers_at_once = MARKERS_AT_ONCE,
 };
