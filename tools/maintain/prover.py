@@ -1,13 +1,16 @@
 """Edits that the prover has to refuse: what wrong-bodies and wrong-definitions share.
 
 The crates are copied to a temporary folder, where `rt check` proves them over the libraries of those below that are there. Over what it kept, one check
-tries many wrong bodies (batches.py), and `rt must-fail` each other edit, as a file of must-fail.
+tries many wrong bodies (batches.py), and `rt must-fail` each other edit, as a file of must-fail. What it kept is left in the crate's own folder, where
+nothing is kept yet, so that the next tool proves nothing again.
 """
 
 from __future__ import annotations
 
+import contextlib
 import os
 import re
+import shutil
 import subprocess
 import sys
 from concurrent.futures import ThreadPoolExecutor
@@ -17,7 +20,7 @@ import batches
 from edits import Trial, copy_crates, write
 from lanes import lanes
 from processors import take_libraries
-from repository import RT, Missing
+from repository import CRATES, RT, Missing
 
 # An edit, whether it passed, and what to print.
 Result = tuple[Trial, bool, str]
@@ -25,6 +28,8 @@ Result = tuple[Trial, bool, str]
 TOLD = re.compile(r"rt: must-fail (\w+)/(\S+)\.edit: (.*)")
 AT = re.compile(r"rt: \w+(: its tests are)? (proved|NOT PROVED)|rt: \w+: trying its ")
 REFUSED = "refused, as it must be"
+# Where `rt check` keeps in a crate's folder `out` what it proved.
+KEPT = "incremental"
 # The prover gave no verdict: it says nothing of the contract.
 LIMITED = f"{REFUSED} (only by a limit"
 
@@ -82,6 +87,16 @@ def size(crate: str) -> int:
     return sum(os.path.getsize(os.path.join(at, file)) for at, _, files in os.walk(os.path.join(crate, "src")) for file in files)
 
 
+def leave_kept(crate: str, own: str) -> None:
+    """Leaves what `rt check` kept of a copy of a crate in the crate's own folder, all at once, where nothing is kept there."""
+    made, kept, part = (os.path.join(folder, "out", it) for folder, it in ((crate, KEPT), (own, KEPT), (own, f"{KEPT}.{os.getpid()}")))
+    if os.path.exists(made) and not os.path.exists(kept):
+        shutil.copytree(made, part)
+        with contextlib.suppress(OSError):  # another tool was faster
+            os.rename(part, kept)
+        shutil.rmtree(part, ignore_errors=True)
+
+
 def refused_together(pool: ThreadPoolExecutor, folder: str, attempts: list[Attempt]) -> dict[Attempt, str]:
     """What the prover says of those of these attempts that it refuses together with others, over what is kept of their crates."""
     crates = {name: batches.Checker(folder, name) for name in dict.fromkeys(it.trial.crate for it in attempts)}
@@ -95,15 +110,19 @@ def tried(folder: str, attempts: list[Attempt]) -> Iterator[Result]:
     """Tries these edits, over what is kept; one of which nothing is said has failed, as where its crate is not proved as it stands."""
     take_libraries()
     top = copy_crates(folder, dict.fromkeys(it.trial.crate for it in attempts), with_kept=True)
+    names = sorted(dict.fromkeys(it.trial.crate for it in attempts), key=lambda it: -size(os.path.join(top, it)))
+    # More jobs of one crate take more of the processors in all.
+    words = ["--jobs", "1"] if len(names) >= lanes() else []
 
     def is_proved(crate: str) -> bool:
-        checked = subprocess.run([RT, "check"], cwd=os.path.join(top, crate), capture_output=True, text=True, errors="replace")
+        checked = subprocess.run([RT, "check", *words], cwd=os.path.join(top, crate), capture_output=True, text=True, errors="replace")
         if checked.returncode:
             print(f"{crate} is not proved:\n{checked.stdout[-4000:]}{checked.stderr[-4000:]}", end="", file=sys.stderr, flush=True)
+        else:
+            leave_kept(os.path.join(top, crate), os.path.join(CRATES, crate))
         return checked.returncode == 0
 
     with ThreadPoolExecutor(lanes()) as pool:
-        names = sorted(dict.fromkeys(it.trial.crate for it in attempts), key=lambda it: -size(os.path.join(top, it)))
         proved = [name for name, is_well in zip(names, pool.map(is_proved, names)) if is_well]
         said = refused_together(pool, folder, [it for it in attempts if it.trial.crate in proved])
     alone = [it for it in attempts if it not in said and it.trial.crate in proved]

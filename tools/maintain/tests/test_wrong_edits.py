@@ -146,6 +146,17 @@ def test_each_edit_that_is_asked_has_a_line(tmp_path: Path, monkeypatch: pytest.
     assert (prover.told(iter(results[:1])), prover.told(iter(()))) == (0, 1)
 
 
+def test_what_was_proved_of_a_copy_is_left_where_nothing_is_kept(tmp_path: Path) -> None:
+    copy, own, kept = (str(tmp_path / it) for it in ("copy", "own", "own/out/incremental"))
+    prover.leave_kept(copy, own)
+    assert not os.path.exists(own)
+    for text in "new", "newer":
+        (tmp_path / "copy" / "out" / "incremental").mkdir(parents=True, exist_ok=True)
+        (tmp_path / "copy" / "out" / "incremental" / "a").write_text(text)
+        prover.leave_kept(copy, own)
+        assert (os.listdir(f"{own}/out"), os.listdir(kept), (tmp_path / "own/out/incremental/a").read_text()) == (["incremental"], ["a"], "new")
+
+
 def test_why_a_crate_is_not_proved_is_told(tmp_path: Path, monkeypatch: pytest.MonkeyPatch, capsys: pytest.CaptureFixture[str]) -> None:
     fake(monkeypatch, tmp_path, "== low", "axioms", "rt: low proved", "== captures", ERROR, "rt: captures NOT PROVED", status=1)
     prover.ran(str(tmp_path), "ci")
