@@ -7,7 +7,7 @@ import subprocess
 import time
 from typing import Callable
 
-from bonds import COMES_UP, RATE, End, Event, Programs, cables, check_end, check_order, check_whole, pair, run_flows
+from bonds import COMES_UP, RATE, End, Event, Programs, cables, check_end, check_order, check_whole, late, pair, run_flows
 from changing import order
 from checking import Failed, check, within
 from forged import two_ends
@@ -142,8 +142,9 @@ def two_limits(programs: Programs) -> None:
 
 
 # A link that is used again is attached after 2 s: the peer stands still a bit before, and goes on at one of these seconds of the flows. What goes there
-# before is lost in its kernel; without `fast` it waits in its sockets.
-BEFORE_ATTACHED, SOON, LATER = 1.4, 0.3, 1.3
+# before is lost in its kernel; without `fast` it waits in its sockets. Who is to go on soon does so IN_TIME seconds behind the attachment at the latest, or
+# this machine was too busy to look.
+BEFORE_ATTACHED, SOON, LATER, IN_TIME = 1.4, 0.1, 1.3, 0.8
 STANDS_STILL: tuple[tuple[list[str], float], ...] = (([], SOON), (["--fast"], SOON), (["--fast"], LATER))
 
 
@@ -161,12 +162,21 @@ def collects(programs: Programs) -> None:
     for way, goes_on in STANDS_STILL:
         with pair(programs, options=way) as (_, ours, theirs):
             use_while_peer_stands(ours, theirs)
-            outcome = run_flows(programs, 5, [(goes_on, lambda: theirs.process.send_signal(signal.SIGCONT))])
+            attached, went_on = time.monotonic(), list[float]()
+
+            def go_on() -> None:
+                theirs.process.send_signal(signal.SIGCONT)
+                went_on.append(time.monotonic())
+
+            outcome = run_flows(programs, 5, [(goes_on, go_on)])
             check(within(COMES_UP, lambda: theirs.links() == 2), "the peer uses it, too", theirs.text())
             check_order(outcome, f"a peer goes on after {goes_on} s {way}", ours.text())
-            lost = theirs.data("uncollected")
-            told = f"{lost} of {outcome.sent:,} frames come there before it collects"
-            check((lost > 0) == (goes_on == LATER), told, outcome, ours.text(), theirs.text())
+            lost, stood = theirs.data("uncollected"), went_on[0] - attached
+            told = f"{lost} of {outcome.sent:,} frames come there before it collects, {stood:.1f} s after the link was attached"
+            if goes_on == SOON and stood > IN_TIME:
+                print(f"inconclusive: {told}; {late(outcome)}", flush=True)
+            else:
+                check((lost > 0) == (goes_on == LATER), told, outcome, ours.text(), theirs.text())
             check_end(ours, "the sending end")
 
 
