@@ -26,7 +26,7 @@ void read_options_and_file_or_stop(struct process *process, int argc, char **arg
 /* possible.c */
 int choose_plane_unshare_and_check(struct printer *printer, struct plane *plane, const struct options *options);
 int tell_lack(struct printer *printer, const struct options *options, const char *key, const char *what, int status);
-int check_programs(struct printer *printer, const struct options *options, const char *key, bool waits);
+int check_programs_or_stop(struct printer *printer, const struct options *options, const char *key, bool waits);
 
 /* status.c */
 void serve_caller(struct control *control, uint32_t caller);

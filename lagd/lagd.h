@@ -617,7 +617,7 @@ int attach_stored(struct store *own, const char *kind, int program, int index, b
 void detach_stored(struct store *own, const char *kind, int index, int attached);
 
 /* possible.c */
-int try_to_attach_program(const struct settings *settings);
+int try_to_attach_program_or_stop(const struct settings *settings);
 
 /* main.c */
 enum {

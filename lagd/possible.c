@@ -15,16 +15,16 @@ int tell_lack(struct printer *printer, const struct options *options, const char
 }
 
 /* Whether the kernel has a program run at an interface, as Linux does from 6.6 on: then it misses the interface alone. 0, or -errno. */
-int try_to_attach_program(const struct settings *settings) {
-    CLOSED_FILE int program = load_program(settings, "dropper", NULL, NULL);
+int try_to_attach_program_or_stop(const struct settings *settings) {
+    CLOSED_FILE int program = load_program_or_stop(settings, "dropper", NULL, NULL);
     if (program < 0) return program;
     int attached = attach_program(program, NO_INDEX, false);
     return attached == -ENODEV ? 0 : attached;
 }
 
 /* Whether the kernel has what a key wants: programs of an interface, and for `fast` to wait for them. Answers how the program ends. */
-int check_programs(struct printer *printer, const struct options *options, const char *key, bool waits) {
-    int fault = try_to_attach_program(&options->settings);
+int check_programs_or_stop(struct printer *printer, const struct options *options, const char *key, bool waits) {
+    int fault = try_to_attach_program_or_stop(&options->settings);
     if (fault == -EPERM) return tell_lack(printer, options, key, "not known without CAP_BPF and CAP_NET_ADMIN", DONE);
     if (fault != 0) return tell_lack(printer, options, key, "the kernel has no program of an interface, which Linux has from 6.6 on", REFUSED);
     if (!waits || syscall(SYS_membarrier, MEMBARRIER_CMD_GLOBAL, 0, 0) == 0) return DONE;

@@ -21,7 +21,7 @@ static bool wait_for_programs(void) {
 
 static int load_or_stop(const struct settings *settings, const char *name, const struct fast_maps *maps) {
     char reason[REASON_ROOM];
-    int program = load_program(settings, name, maps, reason);
+    int program = load_program_or_stop(settings, name, maps, reason);
     if (program < 0) stop(REFUSED, "fast: the kernel takes no program", reason);
     return program;
 }
@@ -367,7 +367,7 @@ static void pass_fast_tick_or_end(struct tap_plane *tap) {
 }
 
 static int check_fast(struct printer *printer, struct plane *plane UNUSED, const struct options *options) {
-    return check_programs(printer, options, "fast", true);
+    return check_programs_or_stop(printer, options, "fast", true);
 }
 
 const struct passing BY_KERNEL = {

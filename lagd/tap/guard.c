@@ -113,9 +113,9 @@ static bool restore_line(int index, const char *what, const char *line, bool if_
 /* Loads the program that chooses queues, while the daemon may, and opens what wakes it for responses. */
 void start_all_queues_or_stop(struct tap_plane *tap) {
     char reason[REASON_ROOM];
-    int fault = try_to_attach_program(tap->settings);
+    int fault = try_to_attach_program_or_stop(tap->settings);
     if (fault != 0) stop(REFUSED, "queues=all: no program of an interface, which Linux has from 6.6 on", strerror(-fault));
-    tap->chooser = load_program(tap->settings, "chooser", NULL, reason);
+    tap->chooser = load_program_or_stop(tap->settings, "chooser", NULL, reason);
     if (tap->chooser < 0) stop(REFUSED, "queues=all: the kernel takes no program", reason);
     tap->answer_timer = open_answer_timer_or_stop(tap->process->epoll_file);
 }

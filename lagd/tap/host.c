@@ -163,7 +163,7 @@ void open_tap_plane_or_stop(struct plane *plane) {
     own->rooms = make_rooms_or_stop();
     start_held_or_stop(tap->core, &tap->held);
     tap->rooms = make_rooms_or_stop();
-    tap->dropper = load_program(tap->settings, "dropper", NULL, NULL);
+    tap->dropper = load_program_or_stop(tap->settings, "dropper", NULL, NULL);
     CALL(plane->queueing->start, tap);
     need(on_exit(put_back_members, tap) == 0, "on_exit");
     own->tap = open_tap_and_drop_old_frames_or_stop(tap->device, tap->settings->carry, tap->settings->config.mac);

@@ -481,7 +481,7 @@ const struct queueing ONE_QUEUE = {
 };
 
 static int check_all_queues(struct printer *printer, struct plane *plane UNUSED, const struct options *options) {
-    return check_programs(printer, options, "queues", false);
+    return check_programs_or_stop(printer, options, "queues", false);
 }
 
 const struct queueing ALL_QUEUES = {

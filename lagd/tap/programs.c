@@ -44,7 +44,7 @@ static bool prepare_programs(const struct settings *settings, struct programs *m
 }
 
 /* Loads one program, with the tables that it has, if it has some; answers its file, or -errno, and a reason, unless that is NULL. */
-int load_program(const struct settings *settings, const char *name, const struct fast_maps *maps, char *reason) {
+int load_program_or_stop(const struct settings *settings, const char *name, const struct fast_maps *maps, char *reason) {
     char *log = allocate_or_stop(LOG_ROOM); /* the kernel fills what it needs of it */
     const struct bpf_object_open_opts options = {.sz = sizeof options, .kernel_log_buf = log, .kernel_log_size = LOG_ROOM};
     first_warning[0] = 0;

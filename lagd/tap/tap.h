@@ -285,7 +285,7 @@ void flush_host(struct tap_plane *tap);
 struct fast_maps {
     int rows, members, host, places;
 };
-int load_program(const struct settings *settings, const char *name, const struct fast_maps *maps, char *reason);
+int load_program_or_stop(const struct settings *settings, const char *name, const struct fast_maps *maps, char *reason);
 
 /* fast.c */
 extern const struct passing BY_KERNEL;

@@ -282,13 +282,13 @@ static void check_refusals(void) {
     CHECK(map_again(sizeof *rows, CONVERSATIONS, maps.rows) != NULL && map_again(sizeof *rows, CONVERSATIONS, maps.members) == NULL);
     CHECK(map_again(sizeof *rows + 8, CONVERSATIONS, maps.rows) == NULL && map_again(sizeof *rows, CONVERSATIONS, 0) == NULL);
     CHECK(make_map(8, CONVERSATIONS, &wrong.rows) != NULL);
-    CHECK(load_program(&lagd->settings, "sender", &wrong, reason) == -EACCES);
+    CHECK(load_program_or_stop(&lagd->settings, "sender", &wrong, reason) == -EACCES);
     CHECK(strstr(reason, "outside of the allowed memory range") || strstr(reason, "invalid access to map value"));
 }
 
 static int loaded(const char *name, const struct fast_maps *of) {
     char reason[REASON_ROOM];
-    int fd = load_program(&lagd->settings, name, of, reason);
+    int fd = load_program_or_stop(&lagd->settings, name, of, reason);
     if (fd < 0) printf("%s: failed: %s: %s\n", program, name, reason);
     CHECK(fd >= 0);
     return fd;
