@@ -97,7 +97,7 @@ COPIES: tuple[Copy, ...] = (
     Copy(ASSURANCE, f"each end is asked in them until nothing is due{PROMISED}", *rounds("freed")),
     Copy(ASSURANCE, f"a full aggregator whose links all agree{PROMISED}", *rounds("up")),
     Copy(ASSURANCE, "each link distributes and agrees|{} rounds, {}.{} s|the same|", CUT_OFF, r"IsHealthyAt i l old → ((\d+)(\d)) ≤ n → Plays gives"),
-    Copy(ASSURANCE, "the wrong bodies and laws that tell most|{}|the prover", "crates/*/must-fail/*.edit", r"\A", count),
+    Copy(ASSURANCE, "|`must-fail` of four small crates|{}|the prover", "crates/*/must-fail/*.edit", r"\A", count),
     Copy(ASSURANCE, "|wrong bodies|{}|the prover", "tools/maintain/wrong-bodies.d/*.edits", "^edit:", count),
     Copy(ASSURANCE, "of laws the definition alone|{}|", "tools/maintain/wrong-definitions.d/*.edits", "^edit:", count),
     Copy(ASSURANCE, "cut at every length; {},{} frames of up to", "crates/tests_system/src/systems/hostile.rt", r"const FRAMES: u32 = (\d+)_(\d+);"),
