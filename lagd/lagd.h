@@ -226,8 +226,10 @@ struct store {
  *   protocol           all that LACP does: LACPDUs that are due go, interfaces are taken up and released, what the kernel tells is followed, the
  *                      plane learns of it, and so do the manager of services, watchers and the hook
  *
- * A name says which of it a function does. By one with `_or_end` the daemon may end in order, and what the kernel runs for it is detached then; by
- * one with `_or_stop` it may end at once, too. What is only shown is asked of the library with const, too. */
+ * With the number, the name or a file of an interface the kernel may be asked for it, or changed, as the name of the function says. A name says
+ * which of all that a function does. By one with `_or_end` the daemon may end in order, and what the kernel runs for it is detached then. By one with
+ * `_or_stop` it may end at once, too: members and the device get back what they had, the files of the daemon go, and the manager of services keeps
+ * nothing more. What is only shown is asked of the library with const, too. */
 
 /* What prints lines. */
 struct printer {
