@@ -148,7 +148,7 @@ void settle_carry_or_lose_member(struct plane *plane) {
 /* A port on defaults sends an LACPDU each 30 s only, so a link that was silent for more than 6 s would be long in coming back. As one
  * whose link came up it sends one each second. It is done to ports that carry nothing, after a second, and then after twice as long each
  * time. */
-static void restart_port_on_defaults(struct carry *carry, const struct link *link) {
+static void wake_port_on_defaults(struct carry *carry, const struct link *link) {
     uint16_t port = link->settings.number;
     bool sleeps = link->up && link->view.receive_state == NIW_RECEIVE_DEFAULTED && (carry->active == 0 || link->view.aggregator != carry->active);
     unsigned *after = &carry->wakes_after[port - 1], *ticks = &carry->on_defaults[port - 1];
@@ -171,8 +171,8 @@ void begin_carry_tick_and_announce(struct printer *printer, uint64_t *time, unsi
     pass_announcing_tick(printer, announce, device);
 }
 
-void end_carry_tick_and_restart_ports(struct carry *carry) {
+void end_carry_tick_and_wake_ports(struct carry *carry) {
     EACH_LINK_AS_IS(link, carry->ports)
-        if (!carry->core->broken) restart_port_on_defaults(carry, link);
+        if (!carry->core->broken) wake_port_on_defaults(carry, link);
     carry->plane->changed = carry->to_balance = true;
 }

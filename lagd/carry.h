@@ -108,7 +108,7 @@ void choose_ports_and_tell_host(struct plane *plane);
 void begin_carry_tick_and_announce(struct printer *printer, uint64_t *time, unsigned *carrier_ticks, struct announce *announce,
     const struct device *device);
 void note_heard(struct carry *carry);
-void end_carry_tick_and_restart_ports(struct carry *carry);
+void end_carry_tick_and_wake_ports(struct carry *carry);
 void doubt_active_or_follow_peer(struct carry *carry, uint32_t aggregator);
 
 /* flight.c */

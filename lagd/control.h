@@ -24,7 +24,7 @@ struct control {
 void read_options_and_file_or_stop(struct process *process, int argc, char **argv, struct options *options);
 
 /* possible.c */
-int choose_plane_unshare_and_check(struct printer *printer, struct plane *plane, const struct options *options);
+int choose_plane_unshare_and_check_or_stop(struct printer *printer, struct plane *plane, const struct options *options);
 int tell_lack(struct printer *printer, const struct options *options, const char *key, const char *what, int status);
 int check_programs_or_stop(struct printer *printer, const struct options *options, const char *key, bool waits);
 

@@ -217,7 +217,7 @@ void use_team_device_or_stop(struct device *own, int index) {
 }
 
 /* A device that the last daemon had outlive itself goes. */
-void drop_tap_persistence(struct plane *plane UNUSED, int index, bool owned) {
+void drop_persistence_of_former_tap(struct plane *plane UNUSED, int index, bool owned) {
     char room[IF_NAMESIZE];
     CLOSED_FILE int fd = owned && if_indextoname((unsigned)index, room) ? open("/dev/net/tun", O_RDWR | O_CLOEXEC) : -1;
     if (fd >= 0 && attach_or_make_tap(fd, room)) (void)ioctl(fd, TUNSETPERSIST, 0);

@@ -21,7 +21,7 @@ struct device {
 };
 
 /* device.c */
-void follow_tap_withdraw_open_host_or_end(struct device *own, bool has_carrier, const char *discipline);
+void follow_tap_withdraw_open_host_or_end(struct device *own, bool has_now, const char *discipline);
 int open_tap_and_drop_old_frames_or_stop(struct device *own, const char *name, const uint8_t *mac);
 void use_team_device_or_stop(struct device *own, int index);
 bool give_tap_carrier(const struct plane *plane, bool on);
@@ -33,7 +33,7 @@ void limit_and_settle_tap_mtu(struct device *own, uint32_t most);
 void pass_tap_tick(struct printer *printer, unsigned *carrier_ticks, const struct device *own);
 bool read_tap_mac(const struct device *own, uint8_t *mac);
 bool is_tap_up(const struct device *own);
-void drop_tap_persistence(struct plane *plane, int index, bool owned);
+void drop_persistence_of_former_tap(struct plane *plane, int index, bool owned);
 void set_tap_persistence(struct plane *plane, bool keeps);
 
 #endif

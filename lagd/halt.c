@@ -5,7 +5,7 @@
 /* How many ticks peers are told at most. Where three LACPDUs went within a second, the next one waits. */
 #define MOST_TICKS 15
 
-static void lose_all_links_and_tell(struct protocol *protocol) {
+static void set_all_links_down_and_tell(struct protocol *protocol) {
     protocol->halt.silent = true;
     EACH_LINK(link, protocol->ports) set_link_send_and_tell(protocol, link, false);
 }
@@ -17,7 +17,7 @@ static void hold_ports_and_tell_peers(struct protocol *protocol) {
     send_due(protocol);
     read_views_and_count(protocol->core, protocol->ports);
     protocol->halt.ticks = 0;
-    if (end_is_told(protocol->ports)) lose_all_links_and_tell(protocol);
+    if (end_is_told(protocol->ports)) set_all_links_down_and_tell(protocol);
 }
 
 /* The ports go on as new ones, once the kernel told of their interfaces. */
@@ -62,5 +62,5 @@ void halt_or_begin_lacp_at_start(struct protocol *protocol) {
 void pass_halt_tick(struct protocol *protocol) {
     struct halt *own = &protocol->halt;
     if (!own->down || own->silent) return;
-    if (++own->ticks >= MOST_TICKS || end_is_told(protocol->ports)) lose_all_links_and_tell(protocol);
+    if (++own->ticks >= MOST_TICKS || end_is_told(protocol->ports)) set_all_links_down_and_tell(protocol);
 }

@@ -135,7 +135,8 @@ bool write_speed(int socket, int index, uint32_t megabits) {
     return ask_by(socket, index, &told);
 }
 
-/* The link of a port comes up, or is up: with key-by-speed it has the key of the speed that it had as it came. Answers whether that is new. */
+/* The link of a port comes up, or is up: with key-by-speed it has the key of the speed that it had as it came. Answers whether the speed is
+ * new. */
 bool note_speed_and_set_key(struct core *core, struct keys *own, const struct ports *ports, struct link *link) {
     bool by_speed = core->settings->key_by_speed;
     struct niw_change change = {.priority = link->settings.priority, .aggregatable = link->settings.aggregatable};

@@ -216,20 +216,23 @@ struct store {
  * parameter names. Without const it may change, with all to which it leads, and so may
  *
  *   printer            what is told: a line is printed, in the journal, too, and watchers get it
- *   core               the library's state. Where the library refuses a call a line says so, the peers are told, and the daemon ends
- *   link               what its sockets do: a frame goes, or the kernel refuses it, which is noted; and it is asked for the interface
+ *   core               the library's state. Where the library refuses a call, a line says so; the peers are told and the daemon ends, or at once
+ *                      before it has started
+ *   link, ports        the sockets of a link: a frame goes, or the kernel refuses it and the link notes that
  *   process            the files of the daemon, and what the manager of services keeps, which a `struct store` has
  *   device             the device of the host in the kernel: its carrier, MTU, speed
  *   carry, plane, tap_plane, team_plane
  *                      data: frames go, wait and are handed up, conversations move, another aggregator is chosen, and the kernel gets what it
- *                      is to do with frames, members and the device. Where it does not take back what it passes on, the daemon ends
+ *                      is to do with frames, members and the device. Where it does not take back in time what it passes on, the daemon ends
  *   protocol           all that LACP does: LACPDUs that are due go, interfaces are taken up and released, what the kernel tells is followed, the
  *                      plane learns of it, and so do the manager of services, watchers and the hook
+ *   state              what the next daemon finds: its file, the copy of that, and the process that writes the copy
+ *   control            whoever asks gets an answer, and an order is obeyed
  *
- * With the number, the name or a file of an interface the kernel may be asked for it, or changed, as the name of the function says. A name says
- * which of all that a function does. By one with `_or_end` the daemon may end in order, and what the kernel runs for it is detached then. By one with
- * `_or_stop` it may end at once, too: members and the device get back what they had, the files of the daemon go, and the manager of services keeps
- * nothing more. What is only shown is asked of the library with const, too. */
+ * With the number, the name or a file of an interface, also one in a `const struct`, the kernel may be asked for the interface, or may change it.
+ * By a name with `_or_end` the daemon may end in order: the peers are told, and what the kernel runs for it is detached. By one with `_or_stop` it
+ * may end at once, before it has started: members get back what they had, a team device that a daemon made goes, and so does the status socket; the
+ * manager of services forgets what the last daemon left there. What is only shown is asked of the library with const, too. */
 
 /* What prints lines. */
 struct printer {

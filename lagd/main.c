@@ -281,6 +281,6 @@ int main(int argc, char **argv) {
     open_closed_standard_files();
     read_options_and_file_or_stop(&lagd->process, argc, argv, &options);
     if (options.action == RUN_BUNDLE) return run_daemon(lagd, &options);
-    if (options.action == CHECK) return choose_plane_unshare_and_check(&lagd->process.printer, &lagd->plane, &options);
+    if (options.action == CHECK) return choose_plane_unshare_and_check_or_stop(&lagd->process.printer, &lagd->plane, &options);
     return ask_daemons_or_stop(&lagd->process.printer, lagd->process.printer.report, &options);
 }

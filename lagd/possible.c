@@ -32,7 +32,7 @@ int check_programs_or_stop(struct printer *printer, const struct options *option
 }
 
 /* Says what this machine lacks for a file that is right: answers how the program ends. */
-int choose_plane_unshare_and_check(struct printer *printer, struct plane *plane, const struct options *options) {
+int choose_plane_unshare_and_check_or_stop(struct printer *printer, struct plane *plane, const struct options *options) {
     choose_plane(plane, &options->settings);
     int status = ASK(plane->carrying->check, DONE, printer, plane, options);
     if (status == DONE) status = ASK(plane->passing->check, DONE, printer, plane, options);

@@ -140,7 +140,7 @@ static void get_next(netsnmp_request_info *request, const netsnmp_table_request_
     }
 }
 
-/* Answers what is asked of a table, of what the daemons tell now. */
+/* Answers what is asked of a table, by what the daemons told within a second. */
 static int refresh_and_answer_table(netsnmp_mib_handler *handler, netsnmp_handler_registration *registration, netsnmp_agent_request_info *asked,
     netsnmp_request_info *requests) {
     const struct table *table = handler->myvoid;

@@ -51,7 +51,7 @@ void note_unread(struct answers *answers, unsigned packets, bool drained) {
 }
 
 /* Sends what is due on a port, behind the data that came before. */
-static void receive_changes_data_and_answer_due(struct tap_plane *tap, struct link *link) {
+static void receive_data_and_changes_then_answer(struct tap_plane *tap, struct link *link) {
     struct answers *answers = &tap->answers[link - tap->ports->links];
     const struct member *member = &tap->members[link - tap->ports->links];
     uint64_t now = milliseconds();
@@ -67,9 +67,9 @@ static void receive_changes_data_and_answer_due(struct tap_plane *tap, struct li
     }
 }
 
-void serve_changes_data_and_answers(struct tap_plane *tap) {
+void serve_answer_timer_data_and_changes(struct tap_plane *tap) {
     uint64_t passed;
     (void)!read(tap->answer_timer, &passed, sizeof passed);
-    EACH_LINK(link, tap->ports) receive_changes_data_and_answer_due(tap, link);
+    EACH_LINK(link, tap->ports) receive_data_and_changes_then_answer(tap, link);
     set_timer(tap->answer_timer, tap->answers, tap->ports->count);
 }

@@ -137,7 +137,7 @@ void choose_move_and_send(struct plane *plane) {
     tap->carry->to_balance = false;
 }
 
-void pass_data_tick_and_restart_ports(struct plane *plane) {
+void pass_data_tick_and_wake_ports(struct plane *plane) {
     struct tap_plane *tap = plane->tap;
     begin_carry_tick_and_announce(tap->core->printer, &tap->carry->time, &tap->device->carrier_ticks, &tap->carry->announce, tap->device);
     CALL(plane->passing->tick, tap);
@@ -145,5 +145,5 @@ void pass_data_tick_and_restart_ports(struct plane *plane) {
     pass_flight_tick_and_send_markers(tap);
     count_full_sockets(tap->members, tap->ports->count);
     CALL(plane->queueing->watch, tap);
-    end_carry_tick_and_restart_ports(tap->carry);
+    end_carry_tick_and_wake_ports(tap->carry);
 }

@@ -366,12 +366,12 @@ static void pass_fast_tick_or_end(struct tap_plane *tap) {
     if (any) wait_or_detach_and_end(tap);
 }
 
-static int check_fast(struct printer *printer, struct plane *plane UNUSED, const struct options *options) {
+static int check_fast_or_stop(struct printer *printer, struct plane *plane UNUSED, const struct options *options) {
     return check_programs_or_stop(printer, options, "fast", true);
 }
 
 const struct passing BY_KERNEL = {
-    .check = check_fast, .start = start_fast_or_stop, .end = end_fast, .set_up_device = give_no_queue, .run_programs = run_fast_programs,
+    .check = check_fast_or_stop, .start = start_fast_or_stop, .end = end_fast, .set_up_device = give_no_queue, .run_programs = run_fast_programs,
     .count = count_fast_frames_and_follow_peer, .withdraw = withdraw_moved_or_end, .withdraw_port_or_end = withdraw_port_or_end, .pass_on = pass_on,
     .note_read = subtract_read_and_lost, .open_host = open_host, .follow_discipline = withdraw_by_discipline_or_end,
     .set_collecting = set_collecting, .read_host = read_host_and_send, .tick = pass_fast_tick_or_end, .resume = resume_fast_or_end, .steers = true,

@@ -140,7 +140,7 @@ bool give_host(const struct core *core, int fd, const struct iovec *parts, unsig
 /* Serves what is ready: a member, or the TAP device, whose frames come after what was released. */
 void serve_settle_and_send(struct tap_plane *tap, uint32_t tag) {
     if (tap->core->broken) return;
-    if (tag == RESPONSES) serve_changes_data_and_answers(tap);
+    if (tag == RESPONSES) serve_answer_timer_data_and_changes(tap);
     if (tag >= MEMBERS && tag < RESPONSES) {
         receive_data_and_changes(tap, &tap->ports->links[tag - MEMBERS]);
         if (tap->plane->changed) send_due(tap->protocol);

@@ -90,7 +90,7 @@ static bool set_up_promiscuous_socket(int fd, int index, const struct guard *gua
 
 /* Opens a socket of a member; answers it, or -errno. One for all protocols has markers before the filters and bridges of an administrator,
  * which may take frames away there. Where the kernel hands up what comes, nothing comes by that for data. */
-static int open_member_socket_in_promiscuous_mode(struct store *store, const struct inherited *inherited, int epoll_file, int device_index,
+static int open_promiscuous_or_marker_socket(struct store *store, const struct inherited *inherited, int epoll_file, int device_index,
     const struct link *link, const struct guard *guard, enum socket_kind kind) {
     int index = kind == MARKERS ? device_index : link->index;
     struct sockaddr_ll address = {.sll_family = AF_PACKET, .sll_protocol = htons(kind == DIRECT ? ETH_P_SLOW : ETH_P_ALL), .sll_ifindex = index};
@@ -128,7 +128,7 @@ static void release_member(struct store *store, int folder, struct fast_programs
 /* Opens the sockets of a member whose programs run; answers 0, or -errno, and then it is no member any more. */
 static int open_sockets_or_release(struct tap_plane *tap, const struct link *link, struct member *member) {
     for (enum socket_kind kind = DATA; kind < (member->guard.fast ? SOCKETS : MARKERS); kind++) {
-        int opened = member->sockets[kind] = open_member_socket_in_promiscuous_mode(&tap->process->store, tap->process->inherited,
+        int opened = member->sockets[kind] = open_promiscuous_or_marker_socket(&tap->process->store, tap->process->inherited,
             tap->process->epoll_file, tap->device->index, link, &member->guard, kind);
         if (opened >= 0) continue;
         release_member(&tap->process->store, tap->process->folder, &tap->fast, link, member);
@@ -464,11 +464,11 @@ static int check_tap(struct printer *printer, struct plane *plane UNUSED, const 
 
 const struct carrying TAP_DEVICE = {
     .open = open_tap_plane_or_stop, .end = end_tap_plane, .lose_device = lose_device_and_end, .keep_device = set_tap_persistence,
-    .leave = drop_tap_persistence, .give_carrier = give_tap_carrier, .settle_mtu = settle_tap_mtu, .add = open_member,
+    .leave = drop_persistence_of_former_tap, .give_carrier = give_tap_carrier, .settle_mtu = settle_tap_mtu, .add = open_member,
     .remove = withdraw_and_release_member_or_end, .renew = renew_for_discipline_or_end, .move = move_kept_of_member, .follow_mtu = follow_member_mtu,
     .follow_speed = read_member_speed, .can_empty = can_empty, .empty = empty_port_and_send, .drain = drain_data_and_changes,
     .lose = withdraw_and_drop_answers, .forget = clear_counts_mtu_and_speed, .send_marker = withdraw_and_send_new_marker,
-    .note_response = note_response, .settle = choose_move_and_send, .tick = pass_data_tick_and_restart_ports, .keeps_aggregator = heard_peer_lately,
+    .note_response = note_response, .settle = choose_move_and_send, .tick = pass_data_tick_and_wake_ports, .keeps_aggregator = heard_peer_lately,
     .frames_heard = sum_frames_heard_and_follow_peer, .tell_host = set_speed_and_carrier, .resume = resume_conversations_or_end,
     .go_on = settle_carry_or_lose_member, .member_of = fast_member_of, .end_resuming = release_former_members, .frames_waiting = count_frames_waiting,
     .check = check_tap, .show = show_carry, .show_member = show_member, .show_markers = show_markers, .show_waiting = show_frames_waiting,
@@ -480,12 +480,12 @@ const struct queueing ONE_QUEUE = {
     .markers_at_once = 1,
 };
 
-static int check_all_queues(struct printer *printer, struct plane *plane UNUSED, const struct options *options) {
+static int check_all_queues_or_stop(struct printer *printer, struct plane *plane UNUSED, const struct options *options) {
     return check_programs_or_stop(printer, options, "queues", false);
 }
 
 const struct queueing ALL_QUEUES = {
-    .check = check_all_queues, .start = start_all_queues_or_stop, .fifos_of = count_sending_queues, .set = set_all_queues,
+    .check = check_all_queues_or_stop, .start = start_all_queues_or_stop, .fifos_of = count_sending_queues, .set = set_all_queues,
     .follow = read_queues_and_renew_member_or_end, .watch = watch_queues_renew_or_lose_or_end, .mark = mark_conversation,
     .send_marker = send_by_queues, .accept_response = accept_response_of_queue, .answer = answer_later, .show = show_queues, .text = ", all queues",
     .markers_at_once = MARKERS_AT_ONCE,

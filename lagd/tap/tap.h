@@ -164,7 +164,7 @@ struct tap_plane {
 uint64_t sum_frames_heard_and_follow_peer(struct plane *plane, bool counts_now);
 void set_speed_and_carrier(struct plane *plane);
 void choose_move_and_send(struct plane *plane);
-void pass_data_tick_and_restart_ports(struct plane *plane);
+void pass_data_tick_and_wake_ports(struct plane *plane);
 void accept_from_host(struct tap_plane *tap, uint8_t *packet, size_t length);
 void hand_up_or_follow_peer_and_tell(struct tap_plane *tap, uint32_t aggregator, uint8_t *packet, size_t length);
 
@@ -185,7 +185,7 @@ bool send_by_queues(struct tap_plane *tap, struct link *link, const uint8_t *mar
 bool answer_at_once(struct tap_plane *tap, struct link *link, const uint8_t *response);
 bool answer_later(struct tap_plane *tap, struct link *link, const uint8_t *response);
 int open_answer_timer_or_stop(int epoll_file);
-void serve_changes_data_and_answers(struct tap_plane *tap);
+void serve_answer_timer_data_and_changes(struct tap_plane *tap);
 void note_unread(struct answers *answers, unsigned packets, bool drained);
 
 /* kept.c */

@@ -70,7 +70,7 @@ static void look_at_driver(struct team_plane *team) {
     note_counted(team, device.octets_sent);
 }
 
-uint64_t look_at_buckets_and_frames_received(struct plane *plane, bool looks) {
+uint64_t read_frames_received_and_buckets(struct plane *plane, bool looks) {
     if (looks) look_at_driver(plane->team);
     return plane->team->frames_received;
 }
@@ -156,7 +156,7 @@ static bool place_buckets_or_lose_member(struct team_plane *team) {
 
 /* Ports pass data before buckets go there, and until none is left on them. A bucket that has no port goes by the choice of the driver, which is
  * another one for another number of ports. */
-static void place_and_set_carrier_or_lose_members(struct team_plane *team) {
+static void place_and_set_carrier_or_lose_member(struct team_plane *team) {
     const struct carry *carry = team->carry;
     bool is_active[NIW_MOST_PORTS] = {false};
     if (carry->active == 0) set_carrier(team->device, false);
@@ -173,11 +173,11 @@ static void place_and_set_carrier_or_lose_members(struct team_plane *team) {
     if (carry->active != 0) set_carrier(team->device, true);
 }
 
-void settle_team_or_lose_members(struct plane *plane) {
+void settle_team_or_lose_member(struct plane *plane) {
     struct carry *carry = plane->carry;
     uint16_t before = carry->active;
     choose_ports_and_tell_host(plane);
-    place_and_set_carrier_or_lose_members(plane->team);
+    place_and_set_carrier_or_lose_member(plane->team);
     if (carry->active != before) count_and_forget_heard(carry); /* until now frames came by the ports of the last one */
 }
 
@@ -214,5 +214,5 @@ void pass_tick_of_team(struct plane *plane) {
     if (waiting > 0) rest_silent_conversations(team->core, team, &team->carry->counts[RESTED]);
     if (team->protocol->ticks % SECOND == 0) give_addresses_or_lose_members(team);
     note_heard(team->carry);
-    end_carry_tick_and_restart_ports(team->carry);
+    end_carry_tick_and_wake_ports(team->carry);
 }

@@ -72,11 +72,11 @@ void take_out_of_team_and_bring_up(const struct team_plane *team, int index);
 
 /* buckets.c */
 void start_buckets(struct team_plane *team);
-void settle_team_or_lose_members(struct plane *plane);
+void settle_team_or_lose_member(struct plane *plane);
 void pass_tick_of_team(struct plane *plane);
 void forget_port(struct team_plane *team, uint16_t port);
 int bucket_member_of(const struct plane *plane, uint16_t number);
-uint64_t look_at_buckets_and_frames_received(struct plane *plane, bool looks);
+uint64_t read_frames_received_and_buckets(struct plane *plane, bool looks);
 unsigned count_waiting_buckets(const struct team_plane *team);
 
 #endif

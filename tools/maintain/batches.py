@@ -1,4 +1,4 @@
-"""Wrong bodies that one check of a crate refuses, so that a check is not made for each.
+"""Wrong bodies, and statements of laws, that one check of a crate refuses, so that a check is not made for each.
 
 A function's proof knows of other functions what their contracts say, and whom they call, but not their bodies. So of wrong bodies of different functions
 each is refused, or not, as it would be alone; no edit adds a call that another one's would close to a cycle. So is each wrong statement of a law, which is
@@ -87,9 +87,9 @@ def changes(crate: str, trial: Trial) -> dict[str, dict[int, str]]:
 
 
 @lru_cache(maxsize=None)
-def named(crate: str) -> Counter[str]:
-    """How often the sources and proofs of a crate have each word, but for comments and imports of sources, and what the proof of a function says of
-    itself."""
+def count_of_words(crate: str) -> Counter[str]:
+    """How often the sources and proofs of a crate have each word, but for comments and imports of sources, and of each file of proofs the words of its own
+    path."""
     found = Counter[str]()
     for at, _, files in os.walk(crate):
         for file in files:
@@ -102,9 +102,9 @@ def named(crate: str) -> Counter[str]:
     return found
 
 
-def is_changed(crate: str, function: Function, line: int) -> bool:
+def is_of_own_proof(crate: str, function: Function, line: int) -> bool:
     """Whether a line is of what only the proof of this function knows: of its body, or of the statement of a law that nothing else names."""
-    is_law = function.opens == function.closes and named(crate)[function.name] == 1
+    is_law = function.opens == function.closes and count_of_words(crate)[function.name] == 1
     return function.opens < line < function.closes or is_law and function.first < line < function.opens
 
 
@@ -115,7 +115,7 @@ def places(crate: str, trial: Trial) -> set[Place]:
         within = functions(read_text(os.path.join(crate, file))) if file.startswith("src/") else []
         for line in lines:
             function = around(within, line)
-            if function is None or not is_changed(crate, function, line):
+            if function is None or not is_of_own_proof(crate, function, line):
                 return set()
             found.add(Place(file, function.first))
     return found

@@ -98,7 +98,7 @@ COPIES: tuple[Copy, ...] = (
     Copy(ASSURANCE, f"a full aggregator whose links all agree{PROMISED}", *rounds("up")),
     Copy(ASSURANCE, "each link distributes and agrees|{} rounds, {}.{} s|the same|", CUT_OFF, r"IsHealthyAt i l old → ((\d+)(\d)) ≤ n → Plays gives"),
     Copy(ASSURANCE, "|`must-fail` of four small crates|{}|the prover", "crates/*/must-fail/*.edit", r"\A", count),
-    Copy(ASSURANCE, "|wrong bodies|{}|the prover", "tools/maintain/wrong-bodies.d/*.edits", "^edit:", count),
+    Copy(ASSURANCE, "|wrong bodies and statements of laws|{}|the prover", "tools/maintain/wrong-bodies.d/*.edits", "^edit:", count),
     Copy(ASSURANCE, "of laws the definition alone|{}|", "tools/maintain/wrong-definitions.d/*.edits", "^edit:", count),
     Copy(ASSURANCE, "cut at every length; {},{} frames of up to", "crates/tests_system/src/systems/hostile.rt", r"const FRAMES: u32 = (\d+)_(\d+);"),
     Copy("docs/internals/THEOREMS.md", "- *{} | {}* means: after", ROUNDS, r"^up_if_both_active = (\d+)$[^=]*^up_if_one_is = (\d+)$"),

@@ -1,8 +1,8 @@
 """Edits that the prover has to refuse: what wrong-bodies and wrong-definitions share.
 
 The crates are copied to a temporary folder, where `rt check` proves them over the libraries of those below that are there. Over what it kept, one check
-tries many wrong bodies (batches.py), and `rt must-fail` each other edit, as a file of must-fail. What it kept is left in the crate's own folder, where
-nothing is kept yet, so that the next tool proves nothing again.
+tries many of them (batches.py), and `rt must-fail` each other one, as a file of must-fail. What it kept is left in the crate's own folder, where nothing
+is kept yet, so that the next tool proves nothing again.
 """
 
 from __future__ import annotations

@@ -138,7 +138,7 @@ NOTHING(give_addresses_or_lose_members, struct team_plane *team)
 NOTHING(begin_carry_tick_and_announce, struct printer *printer, uint64_t *time, unsigned *carrier_ticks, struct announce *announce,
     const struct device *device)
 NOTHING(note_heard, struct carry *carry)
-NOTHING(end_carry_tick_and_restart_ports, struct carry *carry)
+NOTHING(end_carry_tick_and_wake_ports, struct carry *carry)
 NOTHING(count_and_forget_heard, struct carry *carry)
 void set_carrier(struct device *device, bool on) {
     carrier = on;
@@ -205,7 +205,7 @@ static void happen(void) {
 static void settle(void) {
     for (unsigned turn = 0; turn < 8; turn++) {
         lagd->plane.changed = false;
-        settle_team_or_lose_members(&lagd->plane);
+        settle_team_or_lose_member(&lagd->plane);
         if (!lagd->plane.changed) break;
     }
     if (lagd->carry.active != 0) placed_in = aggregator;

@@ -118,27 +118,27 @@ static void try_answers(void) {
     lagd->tap.answer_timer = open_answer_timer_or_stop(lagd->process.epoll_file);
     while (taken < 100 && answer_later(&lagd->tap, &lagd->ports.links[PORT - 1], frame)) taken++;
     check(taken == 64, __func__, "sixty-four responses wait, and no more");
-    serve_changes_data_and_answers(&lagd->tap);
+    serve_answer_timer_data_and_changes(&lagd->tap);
     check(answered == 0, __func__, "none goes before its time");
     now += AFTER + 1;
-    serve_changes_data_and_answers(&lagd->tap);
+    serve_answer_timer_data_and_changes(&lagd->tap);
     check(answered == 0, __func__, "nor while its socket may have what came before");
     note_unread(&lagd->tap.answers[PORT - 1], 64, false);
-    serve_changes_data_and_answers(&lagd->tap);
+    serve_answer_timer_data_and_changes(&lagd->tap);
     check(answered == 0, __func__, "or was not read to its end");
     note_unread(&lagd->tap.answers[PORT - 1], 3, true);
-    serve_changes_data_and_answers(&lagd->tap);
+    serve_answer_timer_data_and_changes(&lagd->tap);
     check(answered == 64, __func__, "then all go");
     check(answer_later(&lagd->tap, &lagd->ports.links[PORT - 1], frame), __func__, "there is room again");
     lagd->tap.answers[PORT - 1].count = 0;
     now += 10 * AFTER;
     note_unread(&lagd->tap.answers[PORT - 1], 0, true);
-    serve_changes_data_and_answers(&lagd->tap);
+    serve_answer_timer_data_and_changes(&lagd->tap);
     check(answered == 64, __func__, "with the link down none goes");
     check(answer_later(&lagd->tap, &lagd->ports.links[PORT - 1], frame), __func__, "there is room then");
     now += AFTER + 1;
     for (unsigned read = 0; read < 32768; read += 64) note_unread(&lagd->tap.answers[PORT - 1], 64, false);
-    serve_changes_data_and_answers(&lagd->tap);
+    serve_answer_timer_data_and_changes(&lagd->tap);
     check(answered == 65, __func__, "a flood of data does not hold a response for ever");
 }
 

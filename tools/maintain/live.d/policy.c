@@ -279,7 +279,7 @@ NOTHING(set_speed, struct device *device, uint32_t megabits)
 ANSWERS(uint16_t count_links, PORTS, const struct ports *ports)
 NOTHING(write_report_and_tell_watchers, struct core *core, const struct control *control, const struct link *link)
 /* The plane: frames come here alone, and members have one queue. */
-static const struct carrying FRAMES = {.settle = choose_move_and_send, .tick = pass_data_tick_and_restart_ports, .keeps_aggregator = heard_peer_lately,
+static const struct carrying FRAMES = {.settle = choose_move_and_send, .tick = pass_data_tick_and_wake_ports, .keeps_aggregator = heard_peer_lately,
     .frames_heard = sum_frames_heard_and_follow_peer, .tell_host = set_speed_and_carrier, .go_on = settle_carry_or_lose_member,
     .note_response = note_response};
 static const struct passing BY_DAEMON = {0};
