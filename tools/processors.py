@@ -114,12 +114,13 @@ def rtlib() -> Any:
 
 def take_libraries() -> None:
     """Has every command of rt take the libraries that the test command made of these sources, where that passed: it leaves them without the stamp by
-    which they are known to be of these sources."""
+    which they are known to be of these sources. One with a stamp is of another command, which may have made it of other ones."""
     if not has_passed():
         return
     for crate in rtlib().crates_below(CRATES):
-        if os.path.isdir(crate.rlib) and crate.folder.startswith(CRATES):
-            write_text(os.path.join(os.path.dirname(crate.rlib), "stamp"), crate.stamp())
+        stamp = os.path.join(os.path.dirname(crate.rlib), "stamp")
+        if os.path.isdir(crate.rlib) and crate.folder.startswith(CRATES) and not os.path.exists(stamp):
+            write_text(stamp, crate.stamp())
 
 
 def compile_crate(name: str, made: str, words: Sequence[str], toolchain: str | None = None) -> None:

@@ -31,7 +31,7 @@ NO_VERDICT = re.compile(
     r"\S+:\d+:\d+: error\[|fn .*: could not tell"
     r"|.*(ran out of (stack|the (steps|memory) that the check)|(outgrew the memory limit|stopped at the step limit) \()"
 )
-ANSWERS = re.compile(r"proofs/(.+)/(\w+)/Answers\.antt$")
+ANSWERS = re.compile(r"proofs/(?:(.+)/)?(\w+)/Answers\.antt$")
 # What a proof says where an edit took away what it names.
 NAMED = re.compile(r"has no field|is not in scope|has no `|w(as|ere) not admitted")
 # What an error of a source says that is of a goal; without a goal before it the prover could not read the source.
@@ -104,7 +104,7 @@ def count_of_words(crate: str) -> Counter[str]:
 
 def is_of_own_proof(crate: str, function: Function, line: int) -> bool:
     """Whether a line is of what only the proof of this function knows: of its body, or of the statement of a law that nothing else names."""
-    is_law = function.opens == function.closes and count_of_words(crate)[function.name] == 1
+    is_law = not function.impl and function.opens == function.closes and count_of_words(crate)[function.name] == 1
     return function.opens < line < function.closes or is_law and function.first < line < function.opens
 
 
@@ -150,17 +150,19 @@ def edited(crate: str, batch: Iterable[Trial]) -> dict[str, str]:
 
 
 def answered(crate: str, answers: str) -> list[Place]:
-    """The functions that the answers of a proof may be of. Their folder is that of the function's file, or of its type's, with the type's name."""
+    """The functions that the answers of a proof may be of. Their folder is that of the function's file, none for the root, or of its type's, with the
+    type's name."""
     found = ANSWERS.match(answers)
     if not found:
         return []
-    last = found[1].split("/")[-1]
-    in_type = not os.path.isfile(os.path.join(crate, "src", f"{found[1]}.rt"))
+    of = found[1] or ("main" if os.path.isfile(os.path.join(crate, "src", "main.rt")) else "lib")
+    last = of.split("/")[-1]
+    in_type = not os.path.isfile(os.path.join(crate, "src", f"{of}.rt"))
     files = [os.path.join(at, file) for at, _, names in os.walk(os.path.join(crate, "src")) for file in names]
     its = [(os.path.relpath(file, crate), it) for file in files for it in functions(read_text(file)) if it.name == found[2]]
     if in_type:
         return [Place(file, it.first) for file, it in its if any(last.startswith(word) for word in re.findall(r"[A-Z]\w*", it.impl))]
-    return [Place(file, it.first) for file, it in its if not it.impl and file == f"src/{found[1]}.rt"]
+    return [Place(file, it.first) for file, it in its if not it.impl and file == f"src/{of}.rt"]
 
 
 def blamed(crate: str, lines: Iterable[str]) -> dict[Place, str] | None:

@@ -91,8 +91,8 @@ def leave_kept(crate: str, own: str) -> None:
     """Leaves what `rt check` kept of a copy of a crate in the crate's own folder, all at once, where nothing is kept there."""
     made, kept, part = (os.path.join(folder, "out", it) for folder, it in ((crate, KEPT), (own, KEPT), (own, f"{KEPT}.{os.getpid()}")))
     if os.path.exists(made) and not os.path.exists(kept):
-        shutil.copytree(made, part)
-        with contextlib.suppress(OSError):  # another tool was faster
+        with contextlib.suppress(OSError):  # no room, or another tool was faster
+            shutil.copytree(made, part)
             os.rename(part, kept)
         shutil.rmtree(part, ignore_errors=True)
 

@@ -144,7 +144,7 @@ def two_limits(programs: Programs) -> None:
 # A link that is used again is attached after 2 s: the peer stands still a bit before, and goes on at one of these seconds of the flows. What goes there
 # before is lost in its kernel; without `fast` it waits in its sockets. A peer that was to go on at SOON, and did so more than IN_TIME seconds behind the
 # attachment, tells nothing: this machine was too busy.
-BEFORE_ATTACHED, SOON, LATER, IN_TIME = 1.4, 0.1, 1.3, 0.8
+BEFORE_ATTACHED, SOON, LATER, IN_TIME = 1.4, 0.2, 1.3, 0.8
 STANDS_STILL: tuple[tuple[list[str], float], ...] = (([], SOON), (["--fast"], SOON), (["--fast"], LATER))
 
 

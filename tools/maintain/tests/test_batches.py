@@ -51,9 +51,16 @@ pub fn holds()
 pub fn told()
     ensures always { 2 ≡ 2 }
 {}
+
+impl First {
+    fn own()
+        ensures always { 6 ≡ 6 }
+    {}
+}
 """
 # In another file, which imports one law, and has another one of the name of the second.
-OTHER = SOURCE.replace("use std::fmt;", "pub use crate::a::holds; // holds").replace("for First", "for Second").replace("fn holds()", "fn stays()")
+OTHER = SOURCE.replace("use std::fmt;", "pub use crate::a::holds; // holds").replace("for First", "for Second")
+OTHER = OTHER.replace("fn holds()", "fn stays()").replace("fn own()", "fn other()")
 PAIRS = {
     "of_first": (("src/a.rt", "let inner = 1;", "let inner = 2;"),),
     "of_first_again": (("src/a.rt", "    a + inner", "    a"),),
@@ -64,6 +71,7 @@ PAIRS = {
     "of_a_law": (("src/a.rt", "1 ≡ 1", "1 ≡ 3"),),
     "of_a_law_that_has_another_name": (("src/a.rt", "holds()", "heard()"), ("src/a.rt", "1 ≡ 1", "1 ≡ 4")),
     "of_a_law_that_is_named": (("src/a.rt", "2 ≡ 2", "2 ≡ 3"),),
+    "of_a_function_of_a_type": (("src/a.rt", "6 ≡ 6", "6 ≡ 7"),),
     "of_a_definition": (("specs/A.antt", "a", "b"),),
     "of_nothing": (("src/a.rt", "a", "b"),),
     "of_a_text_that_stands_twice_first": (("src/a.rt", "let inner = 1;", "let outer = 1;"), ("src/a.rt", "inner", "outer")),
@@ -75,6 +83,7 @@ TRIALS = {name: edits.Trial("low", name, pairs) for name, pairs in PAIRS.items()
 def crate(tmp_path: Path) -> str:
     (tmp_path / "src").mkdir()
     (tmp_path / "src" / "a.rt").write_text(SOURCE)
+    (tmp_path / "src" / "lib.rt").write_text("pub fn of_root()\n    ensures { 5 ≡ 5 }\n{}\n")
     (tmp_path / "src" / "b").mkdir()
     (tmp_path / "src" / "b" / "c.rt").write_text(OTHER)
     (tmp_path / "proofs" / "a" / "holds").mkdir(parents=True)
@@ -84,7 +93,7 @@ def crate(tmp_path: Path) -> str:
 
 def test_functions_have_a_body_of_lines() -> None:
     found = [(it.name, it.first, it.opens, it.closes) for it in batches.functions(SOURCE)]
-    assert found == [("first", 3, 7, 10), ("name", 17, 17, 22), ("last", 29, 31, 33), ("holds", 35, 37, 37), ("told", 39, 41, 41)]
+    assert found == [("first", 3, 7, 10), ("name", 17, 17, 22), ("last", 29, 31, 33), ("holds", 35, 37, 37), ("told", 39, 41, 41), ("own", 44, 46, 46)]
     around = [batches.around(batches.functions(SOURCE), line) for line in (2, 3, 8, 11, 20, 26, 32)]
     assert [it and it.name for it in around] == [None, "first", "first", None, "name", None, "last"]
 
@@ -102,6 +111,7 @@ def test_what_is_edited_stays_in_its_line(crate: str) -> None:
 NOTE = "it is not proved that what the function ensures holds when it returns (`returns`)"
 LAST = f"note: src/a.rt:29:5: {NOTE}"
 INNER = "src/a.rt:20:9: error: `returns`: no"
+ROOT = "./proofs/of_root/Answers.antt:3:4: error: `returns`: no"
 ANSWER = "./proofs/b/c/SecondNamed/name/Answers.antt:3:4: error: `returns`: `grind` found no proof"
 
 
@@ -110,6 +120,7 @@ ANSWER = "./proofs/b/c/SecondNamed/name/Answers.antt:3:4: error: `returns`: `gri
     [
         ([LAST, "note: src/a.rt:8:5: this took 7 s", INNER, "statements std: modules loaded=1"], {("src/a.rt", 29): LAST, ("src/a.rt", 17): INNER}),
         ([ANSWER, f"note: src/a.rt:8:1: {NOTE}"], {("src/b/c.rt", 17): ANSWER, ("src/a.rt", 3): f"note: src/a.rt:8:1: {NOTE}"}),
+        ([ROOT], {("src/lib.rt", 1): ROOT}),
         (["./proofs/a/last/Answers.antt:1:1: error: `x` is not in scope", LAST], {("src/a.rt", 29): LAST}),
         ([LAST, "src/a.rt:32:5: error: `x` is not in scope"], None),
         ([LAST, "src/a.rt:32:5: error: `returns`: `x` is not in scope"], None),
