@@ -3,10 +3,12 @@
 from __future__ import annotations
 
 from pathlib import Path
+from types import SimpleNamespace
 
 import pytest
 
 import loading
+import processors
 from repository import Missing, read_text
 
 library = loading.module("", "library")
@@ -54,3 +56,19 @@ def test_what_a_command_prints() -> None:
 def test_a_command_that_fails_or_is_not_here_is_told(words: list[str], why: str) -> None:
     with pytest.raises(Missing, match=why):
         library.printed(*words)
+
+
+def test_a_library_of_another_command_keeps_its_stamp(tmp_path: Path, monkeypatch: pytest.MonkeyPatch) -> None:
+    names = ("of_the_test_command", "of_another_command")
+    places = [tmp_path / name / "out" / "rlib" for name in names]
+    for name, place in zip(names, places):
+        (place / f"{name}.rlib").mkdir(parents=True)
+    (places[1] / "stamp").write_text("older", encoding="utf-8")
+    found = [SimpleNamespace(folder=str(tmp_path / name), rlib=str(place / f"{name}.rlib"), stamp=lambda: "now") for name, place in zip(names, places)]
+    monkeypatch.setattr(processors, "CRATES", str(tmp_path))
+    monkeypatch.setattr(processors, "rtlib", lambda: SimpleNamespace(crates_below=lambda _: found))
+    for passed, stamps in (False, [False, True]), (True, [True, True]):
+        monkeypatch.setattr(processors, "has_passed", lambda: passed)
+        processors.take_libraries()
+        assert [(place / "stamp").exists() for place in places] == stamps
+    assert [(place / "stamp").read_text(encoding="utf-8") for place in places] == ["now", "older"]
