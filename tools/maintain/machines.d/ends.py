@@ -111,6 +111,7 @@ def direction(guest: Guest, name: str) -> Outcome:
 def traffic(guest: Guest, seconds: int, event: Callable[[], object] = lambda: None, devices: tuple[str, str] = ("lag0", "lag0"),
             rate: int = RATE, near_space: str = "") -> list[Outcome]:
     """Sends numbered frames for some seconds, with an event in them; answers what became of those to the far end and of those from it."""
+    before = guest.waited()
     guest.run("rm -rf /run/traffic")
     guest.run(f"setsid traffic {seconds} {rate} {' '.join(devices)} {near_space} >/dev/null 2>&1 &")
     if guest.run("for n in $(seq 100); do [ -e /run/traffic/begun ] && exit; sleep 0.1; done; exit 1").status:
@@ -119,6 +120,7 @@ def traffic(guest: Guest, seconds: int, event: Callable[[], object] = lambda: No
     event()
     if guest.run(f"for n in $(seq {10 * (seconds + 30)}); do [ -e /run/traffic/done ] && exit; sleep 0.1; done; exit 1").status:
         raise Failed("numbered frames end")
+    guest.late = guest.waited() - before
     return [direction(guest, name) for name in ("to", "from")]
 
 

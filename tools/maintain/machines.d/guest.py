@@ -57,9 +57,14 @@ class Guest:
 
     process: subprocess.Popen[bytes]
     shell: Line
+    late = 0.0  # for how many seconds it waited for a processor while numbered frames went last
 
     def __init__(self, card: str, folder: str) -> None:
         self.folder, self.card, self.scripts = folder, card, 0
+
+    def waited(self) -> float:
+        """For how many seconds it has waited for a processor so far, by its own clock. One that goes on with its instructions waits for none."""
+        return 0.0
 
     def set_link(self, up: bool, *names: str) -> None:
         """Takes the carrier of cards, or gives it back."""

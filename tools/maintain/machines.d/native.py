@@ -2,6 +2,8 @@
 
 from __future__ import annotations
 
+import contextlib
+import glob
 import os
 import signal
 import socket
@@ -10,6 +12,7 @@ import subprocess
 import usermode
 from fetched import Kernel
 from guest import MACS, PLACES, Guest, Line
+from repository import read_text
 from tree import put
 
 CARD = "veth"
@@ -53,6 +56,14 @@ class Native(Guest):
                                             env=usermode.environment(folder))
         far.close()
         self.shell = Line(near)
+
+    def waited(self) -> float:
+        found = 0
+        for place in glob.glob("/proc/[0-9]*"):
+            with contextlib.suppress(OSError):  # the process has ended
+                if os.getpgid(int(os.path.basename(place))) == self.process.pid:
+                    found += int(read_text(f"{place}/schedstat").split()[1])
+        return found / 1e9
 
     def set_link(self, up: bool, *names: str) -> None:
         self.run("\n".join(f"ip -n cables link set {name} {'up' if up else 'down'}" for name in names))

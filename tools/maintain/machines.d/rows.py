@@ -20,6 +20,8 @@ TIMEOUT, STATE_AGE = 3, 1.5
 # In seconds: from a daemon's look at the LACPDUs to its line of them, at most; for how long without a daemon those of a state hold in any case,
 # which is the timeout less 1 s for the age of each, and 0.2 s; and when the next daemon is there at the latest.
 TELLS, SOON, BACK = 0.5, 0.8, 3
+# A guest that waited for so many seconds for a processor, while frames went, tells nothing of times.
+LATE = 1.0
 # What links may lose that negotiate anew.
 ANEW = 3 * RATE
 # Cards whose driver cannot be set to one queue: each processor has one.
@@ -61,9 +63,19 @@ def handed_over(guest: Guest, what: str, outcomes: list[Outcome], most: int, ord
     """The same where another daemon goes on: all links do only where it is there SOON (LAGD, "An upgrade, a restart, a crash"), which a loaded machine
     may keep it from."""
     away = without_daemon(guest)
+    if is_inconclusive(guest, what, away):
+        return f"{cell(outcomes)}, {away:.1f} s without a daemon, the machine was too busy"
     check(away <= BACK, f"{what}: another daemon goes on within {BACK} s ({away:.1f} s)", journal(guest))
     most = most if away <= SOON else max(most, ANEW)
     return f"{orderly(guest, what, outcomes, most, ordered)}, {away:.1f} s without a daemon"
+
+
+def is_inconclusive(guest: Guest, what: str, away: float) -> bool:
+    """Whether another daemon came too late where the guest had no processor for a while; a line says so."""
+    if away <= BACK or guest.late < LATE:
+        return False
+    print(f"inconclusive: {what}: another daemon goes on after {away:.1f} s; the guest waited {guest.late:.1f} s for a processor", flush=True)
+    return True
 
 
 def booted(guest: Guest, what: str) -> str:
@@ -192,6 +204,9 @@ def is_killed(guest: Guest) -> str:
     check(len(left.spoke) == 2 and lately, "a daemon leaves a state of its last second: both links carry", killed, last, state)
     said = guest.text("journalctl --no-pager -b -u lagd@uplink -o short-monotonic | grep 'go on where'")
     lines = [(float(at), int(count)) for at, count in re.findall(r"([\d.]+)\] .* (\d) of 2 links", said) if float(at) > killed]
+    if len(lines) == 1 and is_inconclusive(guest, "the daemon is killed", away):
+        up_again(guest)
+        return f"{cell(outcomes)}, {away:.1f} s without a daemon, the machine was too busy"
     if len(lines) != 1 or away > BACK:
         raise Failed(f"one daemon follows one that is killed, within {BACK} s ({away:.1f} s)", said, journal(guest))
     at, count = lines[0]
