@@ -91,14 +91,13 @@ def count_of_words(crate: str) -> Counter[str]:
     """How often the sources and proofs of a crate have each word, but for comments and imports of sources, and of each file of proofs the words of its own
     path."""
     found = Counter[str]()
-    for at, _, files in os.walk(crate):
-        for file in files:
-            if file.endswith(".rt"):
-                text = re.sub(r"//.*", "", read_text(os.path.join(at, file)))
-                found.update(re.findall(r"\w+", re.sub(r"^ *(pub )?use [^;]*;", "", text, flags=re.M)))
-            elif file.endswith(".antt"):
-                within = at.split(os.sep)
-                found.update(it for it in re.findall(r"\w+", read_text(os.path.join(at, file))) if it not in within)
+    for path in [os.path.join(at, file) for part in ("src", "specs", "proofs") for at, _, files in os.walk(os.path.join(crate, part)) for file in files]:
+        if path.endswith(".rt"):
+            text = re.sub(r"//.*", "", read_text(path))
+            found.update(re.findall(r"\w+", re.sub(r"^ *(pub )?use [^;]*;", "", text, flags=re.M)))
+        elif path.endswith(".antt"):
+            within = path.split(os.sep)
+            found.update(it for it in re.findall(r"\w+", read_text(path)) if it not in within)
     return found
 
 

@@ -88,6 +88,9 @@ def crate(tmp_path: Path) -> str:
     (tmp_path / "src" / "b" / "c.rt").write_text(OTHER)
     (tmp_path / "proofs" / "a" / "holds").mkdir(parents=True)
     (tmp_path / "proofs" / "a" / "holds" / "Answers.antt").write_text("use proofs.a.holds.Goals as goal")
+    # What was made of them is no source.
+    (tmp_path / "out").mkdir()
+    (tmp_path / "out" / "a.rt").write_text(SOURCE)
     return str(tmp_path)
 
 
