@@ -79,6 +79,12 @@ static void write_frame(uint8_t *frame, unsigned flow, uint64_t number, bool by_
     memcpy(frame + HEADERS, &mark, sizeof mark);
 }
 
+/* Sleeps until the next frame is due, and so long that some are where many go in a second: a guest without a processor of its own wakes dearly. */
+static void wait_until(uint64_t due) {
+    uint64_t time = now(), least = time + 300000, until = due > least ? due : least;
+    (void)clock_nanosleep(CLOCK_MONOTONIC, TIMER_ABSTIME, &(struct timespec){(time_t)(until / SECOND), (long)(until % SECOND)}, NULL);
+}
+
 /* Sends frames; answers how many the kernel did not take. */
 static uint64_t send_frames(int fd, struct mmsghdr *messages, unsigned count) {
     uint64_t refused = 0;
@@ -105,7 +111,7 @@ static int send_flows(char **words) {
         unsigned count;
         if (wanted > total) wanted = total;
         if (wanted <= sent) {
-            nanosleep(&(struct timespec){0, 300000}, NULL);
+            wait_until(start + (uint64_t)((double)(sent + 1) * SECOND / rate));
             continue;
         }
         count = wanted - sent > BATCH ? BATCH : (unsigned)(wanted - sent);

@@ -9,7 +9,7 @@ from typing import Any, Callable, NamedTuple
 from checking import Failed
 from guest import Ended, Guest
 
-COMES_UP, RATE = 60, 500
+COMES_UP, RATE = 60, 200
 NEAR_AT, FAR_AT = "192.0.2.1", "192.0.2.2"
 NEAR = "[Bundle]\nkey=7\nsystem=auto\ncarry=lag0\nhash=layer3+4\n{more}\n[Port eth1]\n[Port eth2]\n"
 FAR = "[Bundle]\nkey=5\nsystem=32768,02:00:00:00:00:bb\ncarry=lag0\nhash=layer3+4\n{more}\n[Port far1]\n[Port far2]\n"

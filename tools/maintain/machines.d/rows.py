@@ -14,7 +14,7 @@ from guest import Guest
 # hands up of it may be overtaken (LAGD, "Order").
 SECONDS, LINK_GOES, ONE_END = 5, RATE, 5 * RATE
 # What a daemon may have in hand as it is killed.
-IN_HAND = 256
+IN_HAND = RATE // 2
 # For how long an LACPDU holds with Short Timeout (6.4.4), and how old a state is at most, in seconds.
 TIMEOUT, STATE_AGE = 3, 1.5
 # In seconds: from a daemon's look at the LACPDUs to its line of them, at most; for how long without a daemon those of a state hold in any case,

@@ -80,7 +80,8 @@ def try_edit(words: list[str], crate: str, trial: Trial) -> tuple[bool, str]:
     if missing:
         others = ", ".join(dict.fromkeys(failed)) or "nothing"
         return False, f"{', '.join(missing)} does not refuse, but {others}"
-    return True, f"refused by {', '.join(wanted)} of calls.c"
+    more = ", ".join(it for it in dict.fromkeys(failed) if it not in wanted)
+    return True, f"refused by {', '.join(wanted)} of calls.c{f', as by {more}' if more else ''}"
 
 
 def try_all(folder: str, trials: list[Trial]) -> Iterator[Result]:
