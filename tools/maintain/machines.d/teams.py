@@ -11,8 +11,8 @@ from ends import COMES_UP, FAR, NEAR, OVER, carrying, comes_up, journal, ping, s
 from fetched import USER_MODE
 from guest import Guest
 from native import CARD
-from rows import (SECONDS, bonding, bonding_cable, boots, cable_is_pulled, card_is_pulled, is_killed, is_upgraded, near_carrier_goes, orderly,
-                  peer_is_killed, peer_is_stopped, pings, restarts, steady, streams)
+from rows import (SECONDS, UPGRADE, Rows, bonding, bonding_cable, boots, cable_is_pulled, card_is_pulled, is_killed, is_upgraded, near_carrier_goes,
+                  orderly, peer_is_killed, peer_is_stopped, pings, restarts, steady, streams, without_upgrade)  # fmt: skip
 
 TEAM = "plane=team"
 FILES = {**OVER, "etc/lagd/uplink.conf": NEAR.format(more=TEAM), "etc/lagd/far.conf": FAR.format(more=TEAM)}
@@ -216,7 +216,7 @@ def stops(guest: Guest) -> str:
     return "yes"
 
 
-ROWS: dict[str, Callable[[Guest], str]] = {
+ROWS: Rows = {
     "boots, and the unit brings the bundle up": comes_up_by_team,
     "pings of 1,472 octets": pings,
     "frames lost, and longest gap": steady,
@@ -229,7 +229,7 @@ ROWS: dict[str, Callable[[Guest], str]] = {
     "the peer is killed: up again after": partial(peer_is_killed, after="ip -n far link del lag0; "),
     "systemctl restart": restarts,
     "SIGKILL": is_killed,
-    "an upgrade, and a restart": is_upgraded,
+    UPGRADE: is_upgraded,
     "pings of 8,972 octets": jumbo,
     "in a VLAN, and a bridge above": above,
     "another device takes a member": stays_down,
@@ -248,4 +248,4 @@ ROWS: dict[str, Callable[[Guest], str]] = {
     "its cable is pulled": bonding_cable,
 }
 CARDS = {USER_MODE: CARD, "6.1": "e1000e", "6.12": "e1000e"}
-TASKS = {f"team-{kernel}": Task(kernel, card, FILES, run_rows(ROWS)) for kernel, card in CARDS.items()}
+TASKS = {f"team-{kernel}": Task(kernel, card, FILES, run_rows(ROWS if card == CARD else without_upgrade(ROWS))) for kernel, card in CARDS.items()}
