@@ -19,7 +19,7 @@ from typing import Iterable, Iterator, NamedTuple
 import batches
 from edits import Trial, copy_crates, write
 from lanes import lanes
-from processors import take_libraries
+from processors import rtlib, take_libraries
 from repository import CRATES, RT, Missing
 
 # An edit, whether it passed, and what to print.
@@ -109,17 +109,21 @@ def refused_together(pool: ThreadPoolExecutor, folder: str, attempts: list[Attem
 def tried(folder: str, attempts: list[Attempt]) -> Iterator[Result]:
     """Tries these edits, over what is kept; one of which nothing is said has failed, as where its crate is not proved as it stands."""
     take_libraries()
-    top = copy_crates(folder, dict.fromkeys(it.trial.crate for it in attempts), with_kept=True)
+    top, rt = copy_crates(folder, dict.fromkeys(it.trial.crate for it in attempts), with_kept=True), rtlib()
     names = sorted(dict.fromkeys(it.trial.crate for it in attempts), key=lambda it: -size(os.path.join(top, it)))
     # More jobs of one crate take more of the processors in all.
-    words = ["--jobs", "1"] if len(names) >= lanes() else []
+    jobs, checks = ["--jobs", "1"] if len(names) >= lanes() else [], [*rt.guarded(), rt.RATTLE, "check"]
 
     def is_proved(crate: str) -> bool:
-        checked = subprocess.run([RT, "check", *words], cwd=os.path.join(top, crate), capture_output=True, text=True, errors="replace")
+        made = rt.Crate(os.path.join(top, crate), folder, {})
+        # `rt check` keeps all others out of the crates below, too, meanwhile. Where those are made it does no more than this.
+        is_ready = made.below() and all(it.is_built() for it in made.below())
+        words = [*checks, *made.words(jobs), *rt.KEPT] if is_ready else [RT, "check", *jobs]
+        checked = subprocess.run(words, cwd=made.folder, stdin=subprocess.DEVNULL, capture_output=True, text=True, errors="replace")
         if checked.returncode:
             print(f"{crate} is not proved:\n{checked.stdout[-4000:]}{checked.stderr[-4000:]}", end="", file=sys.stderr, flush=True)
         else:
-            leave_kept(os.path.join(top, crate), os.path.join(CRATES, crate))
+            leave_kept(made.folder, os.path.join(CRATES, crate))
         return checked.returncode == 0
 
     with ThreadPoolExecutor(lanes()) as pool:

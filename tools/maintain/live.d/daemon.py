@@ -82,6 +82,10 @@ class Daemon:
         ports = self.ports()
         return all(ports.get(name, NOTHING)["status"] == "it distributes" for name in names)
 
+    def says_so(self, *names: str) -> bool:
+        """Whether its last lines of these ports say that they distribute: it prints at a tick, behind the change."""
+        return all(self.last_line(name).startswith("it distributes") for name in names)
+
     def count(self, name: str, what: str) -> int:
         return int(self.port(name)["counters"].get(what, -1))
 

@@ -14,6 +14,9 @@ import prover
 from repository import Missing, crates
 
 named = loading.module("wrong-definitions.d", "by_tests")
+# Those that calls of the library find stand on live.d, which can be looked up once one of its modules is loaded.
+loading.module("live.d", "checking")
+by_calls = loading.module("wrong-definitions.d", "by_calls")
 by_prover = loading.module("wrong-definitions.d", "by_prover")
 
 TESTS = """use lagsystem::calls;
@@ -204,3 +207,24 @@ def test_an_edit_of_a_crate_below_is_refused_above_alone(
 def test_a_definition_that_does_not_read_is_none() -> None:
     assert by_prover.unread(["note: src/a.rt:1:2: it is not proved", "./proofs/A.antt:1:2: error: no", "(1)"]) is None
     assert by_prover.unread(["./proofs/A.antt:1:2: error: no", "specs/B.antt:1:2: error: no"]) == "specs/B.antt"
+
+
+def called_by(name: str, function: str, *pairs: edits.Pair) -> edits.Trial:
+    return edits.Trial("lagffi", name, pairs, (("tools/maintain/live", function),))
+
+
+def test_edits_that_calls_find_are_tried_together_where_they_name_different_functions_and_stand_beside_each_other(tmp_path: Path) -> None:
+    (tmp_path / "specs").mkdir()
+    (tmp_path / "specs" / "A.antt").write_text("a = 1\nb = 2\nc = 3\n")
+    one, two, same, clash = (called_by(name, function, ("specs/A.antt", old, new)) for name, function, old, new in (
+        ("one", "f", "a = 1", "a = 2"), ("two", "g", "b = 2", "b = 3"), ("same", "f", "c = 3", "c = 4"), ("clash", "h", "a = 1", "a = 0")))  # fmt: skip
+    assert by_calls.batches(str(tmp_path), [one, two, same, clash]) == [[one, two], [same, clash]]
+
+
+@pytest.mark.parametrize(("failed", "together"), [({"f", "g"}, ["one", "two"]), ({"f"}, []), ({"f", "g", "h"}, [])])
+def test_of_edits_that_are_tried_together_just_what_they_name_has_to_fail(failed: set[str], together: list[str], monkeypatch: pytest.MonkeyPatch) -> None:
+    pair = [called_by("one", "f", ("specs/A.antt", "a", "b")), called_by("two", "g", ("specs/A.antt", "c", "d"))]
+    monkeypatch.setattr(by_calls, "failing", lambda words, crate, batch: (failed, None))
+    assert [(it.name, right) for it, right, _ in by_calls.found_by_own([], "", pair)] == [(name, True) for name in together]
+    assert by_calls.found_alone([], "", pair[:1])[0][1] == (failed == {"f"})
+    assert not by_calls.found_alone([], "", [called_by("body", "f", ("src/a.rt", "a", "b"))])[0][1]

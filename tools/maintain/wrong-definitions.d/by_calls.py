@@ -1,8 +1,9 @@
 """The wrong definitions of the C library, which a program in C refuses.
 
 A static library is built only of a crate that is proved. So here an edit has to be proved too: no contract tells it from what stands there. Then
-tools/maintain/live.d/calls.c is linked with the library that it makes, and the function of calls.c that the edit names has to have a check that
-fails. `rt lib` makes the crates below, over what it kept; each lane has a copy of lagffi with what its first build proved, and builds over that.
+tools/maintain/live.d/calls.c is linked with the library that it makes, and just the functions of calls.c that the edit names have to have a check that
+fails. Edits that name different functions are tried in one library: where just what they name fails, each is found by its own. `rt lib` makes the
+crates below, over what it kept; each lane has a copy of lagffi with what its first build proved, and builds over that.
 """
 
 from __future__ import annotations
@@ -12,11 +13,13 @@ import re
 import shutil
 import subprocess
 from concurrent.futures import ThreadPoolExecutor
-from typing import Iterator
+from functools import partial
+from queue import Queue
+from typing import Callable, Iterable, Iterator
 
 import prover
 from checking import Failed
-from edits import Trial, apply, copy_crates, restore
+from edits import Pair, Trial, apply, copy_crates, replaced, restore
 from lanes import lanes
 from linking import build_calls
 from processors import rtlib
@@ -63,25 +66,58 @@ def called(words: list[str], crate: str) -> tuple[list[str], str | None]:
     return failed, None
 
 
-def try_edit(words: list[str], crate: str, trial: Trial) -> tuple[bool, str]:
-    if not any(file.startswith("specs/") for file, _, _ in trial.pairs):
-        return False, "the edit makes no definition wrong"
-    was, fault = apply(crate, trial.pairs)
+def named(batch: Iterable[Trial]) -> set[str]:
+    """The functions of calls.c that these edits name."""
+    return {function for it in batch for _, function in it.tests}
+
+
+def batches(crate: str, trials: Iterable[Trial]) -> list[list[Trial]]:
+    """These edits, so that those of one batch name different functions, and stand beside each other."""
+    found: list[list[Trial]] = []
+    for trial in trials:
+        fits = (it for it in found if not named(it) & named([trial]) and not replaced(crate, pairs([*it, trial]))[2])
+        batch = next(fits, None)
+        if batch is None:
+            found.append([trial])
+        else:
+            batch.append(trial)
+    return found
+
+
+def pairs(batch: Iterable[Trial]) -> list[Pair]:
+    return [pair for it in batch for pair in it.pairs]
+
+
+def failing(words: list[str], crate: str, batch: list[Trial]) -> tuple[set[str], str | None]:
+    """The functions of calls.c with a check that fails under all these edits together, or what is wrong."""
+    was, fault = apply(crate, pairs(batch))
     if fault:
-        return False, fault
+        return set(), fault
     try:
         failed, fault = called(words, crate)
     finally:
         restore(was)
-    if fault:
-        return False, fault
-    wanted = [function for _, function in trial.tests]
-    missing = [function for function in wanted if function not in failed]
-    if missing:
-        others = ", ".join(dict.fromkeys(failed)) or "nothing"
-        return False, f"{', '.join(missing)} does not refuse, but {others}"
-    more = ", ".join(it for it in dict.fromkeys(failed) if it not in wanted)
-    return True, f"refused by {', '.join(wanted)} of calls.c{f', as by {more}' if more else ''}"
+    return set(failed), fault
+
+
+def found_by_own(words: list[str], crate: str, batch: list[Trial]) -> list[Result]:
+    """Tries edits together; answers none of them where the functions that find them are not just those that they name."""
+    failed, fault = failing(words, crate, batch)
+    if fault or failed != named(batch):
+        return []
+    beside = f", with {len(batch) - 1} more edits made" if len(batch) > 1 else ""
+    return [prover.result(it, True, f"refused by {', '.join(sorted(named([it])))} of calls.c{beside}") for it in batch]
+
+
+def found_alone(words: list[str], crate: str, alone: list[Trial]) -> list[Result]:
+    """Tries one edit; answers it in any case."""
+    if not any(file.startswith("specs/") for file, _, _ in alone[0].pairs):
+        return [prover.result(alone[0], False, "the edit makes no definition wrong")]
+    failed, fault = failing(words, crate, alone)
+    told = f"{', '.join(sorted(named(alone)))} of calls.c"
+    if fault or failed == named(alone):
+        return [prover.result(alone[0], not fault, fault or f"refused by {told}")]
+    return [prover.result(alone[0], False, f"{told} and nothing else is to refuse, but {', '.join(sorted(failed)) or 'nothing'} does")]
 
 
 def try_all(folder: str, trials: list[Trial]) -> Iterator[Result]:
@@ -94,13 +130,21 @@ def try_all(folder: str, trials: list[Trial]) -> Iterator[Result]:
     if failed or fault:
         yield from (prover.result(it, False, f"{CRATE} does not pass as it stands: {fault or ', '.join(failed)}") for it in trials)
         return
-    words = words_for(folder, 1)
-    count = min(lanes(), len(trials))
+    words, together, copies = words_for(folder, 1), batches(first, trials), Queue[str]()
+    for number in range(lanes()):
+        copies.put(shutil.copytree(first, os.path.join(folder, f"lane {number}")))
 
-    def in_lane(number: int) -> list[Result]:
-        crate = shutil.copytree(first, os.path.join(folder, f"lane {number}"))
-        return [prover.result(it, *try_edit(words, crate, it)) for it in trials[number::count]]
+    def in_lane(tries: Callable[[list[str], str, list[Trial]], list[Result]], batch: list[Trial]) -> list[Result]:
+        crate = copies.get()
+        try:
+            return tries(words, crate, batch)
+        finally:
+            copies.put(crate)
 
-    with ThreadPoolExecutor(count) as pool:
-        for results in pool.map(in_lane, range(count)):
+    with ThreadPoolExecutor(lanes()) as pool:
+        done = set[Trial]()
+        for results in pool.map(partial(in_lane, found_by_own), [it for it in together if len(it) > 1]):
+            done.update(it for it, _, _ in results)
+            yield from results
+        for results in pool.map(partial(in_lane, found_alone), [[it] for it in trials if it not in done]):
             yield from results
