@@ -66,7 +66,7 @@ def test_what_stands_on_the_test_command_waits_until_that_is_made(names: list[st
     wants = {"live": "library, root", "pages": "", "test": "toolchain"}
     pages = Event()
 
-    def ends(name: str, more: list[str], gives_way: bool) -> str:
+    def ends(name: str, more: list[str], nice: int) -> str:
         told.append(name)
         if name == "pages":
             pages.set()
@@ -91,7 +91,7 @@ def test_where_nothing_is_made_the_others_still_end(monkeypatch: pytest.MonkeyPa
         raise Missing("no library")
 
     monkeypatch.setattr(check, "CHECKS", {"live": check.Check("tool", "library, root", "")})
-    monkeypatch.setattr(check, "ends", lambda name, more, gives_way: name)
+    monkeypatch.setattr(check, "ends", lambda name, more, nice: name)
     monkeypatch.setattr(check, "make_all", made)
     assert check.side_by_side([("live", [])]) == ["live"]
 
