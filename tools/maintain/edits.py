@@ -76,8 +76,10 @@ def read_trial(crate: str, name: str, rows: Iterable[str], named: Named | None =
     for line in rows:
         word, _, text = line.partition(": ")
         if word == "refused-by":
-            of, test = text.split()
-            tests.append((of, test))
+            of, *its = text.split() or [""]
+            if not its:
+                raise Missing(f"{crate}/{name}: a line `refused-by:` has a crate and its tests: {line}")
+            tests += [(of, it) for it in its]
         elif word == "file":
             named.file, _, named.body = text.partition(" ")
         elif word in ("old", "everywhere", "body"):

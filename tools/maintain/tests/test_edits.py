@@ -10,8 +10,8 @@ import loading  # noqa: F401  (tools/ is looked up)
 import edits
 from repository import Missing, crates
 
-EDIT = """refused-by: tests_system systems::limits::a_limit_holds
-refused-by: tests_system systems::limits::none_is_none
+EDIT = """refused-by: tests_system systems::limits::a_limit_holds systems::limits::none_is_none
+refused-by: tests_system systems::limits::most
 file: specs/Limits.antt
 old: most = 64
 new: most = 65
@@ -35,7 +35,7 @@ def test_an_edit_says_what_it_replaces() -> None:
     trial = edits.read_trial("lagsystem", "limit", EDIT.splitlines())
     assert trial.pairs == (("specs/Limits.antt", "most = 64", "most = 65"), ("src/limits.rt", "64", "65"), ("src/limits.rt", "return kept;", ""))
     assert [isinstance(old, edits.Everywhere) for _, old, _ in trial.pairs] == [False, True, False]
-    assert trial.tests == (("tests_system", "systems::limits::a_limit_holds"), ("tests_system", "systems::limits::none_is_none"))
+    assert trial.tests == tuple(("tests_system", f"systems::limits::{it}") for it in ("a_limit_holds", "none_is_none", "most"))
     assert trial.fault() is None
 
 
@@ -51,6 +51,7 @@ def test_another_line_is_refused_with_its_edit() -> None:
         (["file: specs/A.antt", "old: a", "new: b", "body: a", "new: b"], "no line `file:` says in which file this stands: body: a"),
         (["file: specs/A.antt src/a.rt", "old: a", "new: b", "file: specs/B.antt", "body: a"], "in which file this stands: body: a"),
         (["file: src/a.rt", "new: b"], "not a line of an edit: new: b"),
+        (["refused-by: tests_system", "file: src/a.rt"], "a line `refused-by:` has a crate and its tests: refused-by: tests_system"),
     ],
 )
 def test_a_text_has_a_file_and_a_new_text_an_old_one(rows: list[str], why: str) -> None:

@@ -74,7 +74,7 @@ def named(batch: Iterable[Trial]) -> set[str]:
 def batches(crate: str, trials: Iterable[Trial]) -> list[list[Trial]]:
     """These edits, so that those of one batch name different functions, and stand beside each other."""
     found: list[list[Trial]] = []
-    for trial in trials:
+    for trial in sorted(trials, key=lambda it: -len(it.tests)):
         fits = (it for it in found if not named(it) & named([trial]) and not replaced(crate, pairs([*it, trial]))[2])
         batch = next(fits, None)
         if batch is None:
