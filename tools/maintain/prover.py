@@ -1,6 +1,6 @@
 """Edits that the prover has to refuse: what wrong-bodies and wrong-definitions share.
 
-The crates are copied to a temporary folder, where `rt check` proves them over the libraries of those below that are there. Over what it kept, one check
+The crates are copied to a temporary folder, and proved there over the libraries of those below, side by side. Over what that kept, one check
 tries many of them (batches.py), and `rt must-fail` each other one, as a file of must-fail. What it kept is left in the crate's own folder, where nothing
 is kept yet, so that the next tool proves nothing again.
 """

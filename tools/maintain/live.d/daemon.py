@@ -82,7 +82,7 @@ class Daemon:
         ports = self.ports()
         return all(ports.get(name, NOTHING)["status"] == "it distributes" for name in names)
 
-    def says_so(self, *names: str) -> bool:
+    def says_it_distributes(self, *names: str) -> bool:
         """Whether its last lines of these ports say that they distribute: it prints at a tick, behind the change."""
         return all(self.last_line(name).startswith("it distributes") for name in names)
 

@@ -47,7 +47,7 @@ LINK_GONE, RTM_DELLINK, INDEX = struct.Struct("=IHHIIBxHiII"), 17, "/sys/class/n
 def both_up(ours: Daemon, theirs: Daemon, what: str) -> None:
     holds = within(COMES_UP, lambda: ours.distributes("a0", "a1") and theirs.distributes("b0", "b1"))
     check(holds, what, ours.text(), theirs.text())
-    within(ENDS, lambda: ours.says_so("a0", "a1") and theirs.says_so("b0", "b1"))
+    within(ENDS, lambda: ours.says_it_distributes("a0", "a1") and theirs.says_it_distributes("b0", "b1"))
 
 
 def pair_up(part: Part, what: str = "both links distribute", ours: Sequence[str] = (), theirs: Sequence[str] = ()) -> tuple[Daemon, Daemon]:

@@ -128,7 +128,7 @@ def stop_for_a_minute(part: Part) -> None:
     """Two daemons are stopped for a minute: the peer of the first one waits for 90 s, that of the second one for 3 s."""
     patient, other = part.theirs("b0", options=["--timeout", "long"]), part.theirs("b1")
     ours, second = part.ours("a0"), part.start(OURS, OTHER.replace("bb", "ab"), KEY, "a1")
-    up = lambda: ours.distributes("a0", "a1") and ours.says_so("a0") and patient.distributes("b0", "b1")
+    up = lambda: ours.distributes("a0", "a1") and ours.says_it_distributes("a0") and patient.distributes("b0", "b1")
     check(within(COMES_UP, up), "two bundles distribute", ours.text(), patient.text())
     lines, sent = ours.lines("a0"), second.count("a1", "lacpdus_sent")
     for daemon in ours, second:

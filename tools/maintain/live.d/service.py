@@ -254,7 +254,7 @@ def ports_change(part: Part) -> None:
     make_pair(2)
     write_text(path, FILE)
     ours, theirs = Filed(part, path), part.theirs("b0", "b1", "b2")
-    check(within(COMES_UP, lambda: ours.distributes("a0", "a1") and ours.says_so("a1")), "the bundle of a file comes to distribute", ours.text())
+    check(within(COMES_UP, lambda: ours.distributes("a0", "a1") and ours.says_it_distributes("a1")), "the bundle of a file comes to distribute", ours.text())
     head, numbers = FILE.partition("[Port")[0], lambda: {name: port["port"] for name, port in ours.ports().items()}
 
     def reloaded(text: str, changed: int, ports: dict[str, int]) -> None:

@@ -13,7 +13,7 @@ from guest import Guest
 # What a link may lose when it goes: the frames of some seconds, until LACP times out, where one end alone sees it. What the other end still
 # hands up of it may be overtaken (LAGD, "Order").
 SECONDS, LINK_GOES, ONE_END = 5, RATE, 5 * RATE
-# What a daemon may have in hand as it is killed.
+# What a daemon may have in hand as it is killed: the frames of half a second.
 IN_HAND = RATE // 2
 # For how long an LACPDU holds with Short Timeout (6.4.4), and how old a state is at most, in seconds.
 TIMEOUT, STATE_AGE = 3, 1.5

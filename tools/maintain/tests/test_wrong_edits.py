@@ -218,7 +218,8 @@ def test_edits_that_calls_find_are_tried_together_where_they_name_different_func
     (tmp_path / "specs" / "A.antt").write_text("a = 1\nb = 2\nc = 3\n")
     one, two, same, clash = (called_by(name, function, ("specs/A.antt", old, new)) for name, function, old, new in (
         ("one", "f", "a = 1", "a = 2"), ("two", "g", "b = 2", "b = 3"), ("same", "f", "c = 3", "c = 4"), ("clash", "h", "a = 1", "a = 0")))  # fmt: skip
-    assert by_calls.batches(str(tmp_path), [one, two, same, clash]) == [[one, two], [same, clash]]
+    body = called_by("body", "i", ("src/a.rt", "x", "y"))
+    assert by_calls.batches(str(tmp_path), [one, two, same, clash, body]) == [[one, two], [same, clash]]
 
 
 @pytest.mark.parametrize(("failed", "together"), [({"f", "g"}, ["one", "two"]), ({"f"}, []), ({"f", "g", "h"}, [])])

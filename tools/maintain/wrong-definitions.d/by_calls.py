@@ -2,8 +2,10 @@
 
 A static library is built only of a crate that is proved. So here an edit has to be proved too: no contract tells it from what stands there. Then
 tools/maintain/live.d/calls.c is linked with the library that it makes, and just the functions of calls.c that the edit names have to have a check that
-fails. Edits that name different functions are tried in one library: where just what they name fails, each is found by its own. `rt lib` makes the
-crates below, over what it kept; each lane has a copy of lagffi with what its first build proved, and builds over that.
+fails. Edits that name different functions are tried in one library, where just what they name has to fail. So an edit that nothing finds any more
+passes only where another one of its library makes just its functions fail. One that is asked for by itself is tried alone; each was, when its functions
+were written down. `rt lib` makes the crates below, over what it kept; each lane has a copy of lagffi with what its first build proved, and builds
+over that.
 """
 
 from __future__ import annotations
@@ -71,10 +73,14 @@ def named(batch: Iterable[Trial]) -> set[str]:
     return {function for it in batch for _, function in it.tests}
 
 
+def makes_definition_wrong(trial: Trial) -> bool:
+    return any(file.startswith("specs/") for file, _, _ in trial.pairs)
+
+
 def batches(crate: str, trials: Iterable[Trial]) -> list[list[Trial]]:
-    """These edits, so that those of one batch name different functions, and stand beside each other."""
+    """Those of these edits that make a definition wrong, so that those of one batch name different functions, and stand beside each other."""
     found: list[list[Trial]] = []
-    for trial in sorted(trials, key=lambda it: -len(it.tests)):
+    for trial in sorted(filter(makes_definition_wrong, trials), key=lambda it: -len(it.tests)):
         fits = (it for it in found if not named(it) & named([trial]) and not replaced(crate, pairs([*it, trial]))[2])
         batch = next(fits, None)
         if batch is None:
@@ -105,13 +111,12 @@ def found_by_own(words: list[str], crate: str, batch: list[Trial]) -> list[Resul
     failed, fault = failing(words, crate, batch)
     if fault or failed != named(batch):
         return []
-    beside = f", with {len(batch) - 1} more edits made" if len(batch) > 1 else ""
-    return [prover.result(it, True, f"refused by {', '.join(sorted(named([it])))} of calls.c{beside}") for it in batch]
+    return [prover.result(it, True, f"refused by {', '.join(sorted(named([it])))} of calls.c, with {len(batch) - 1} more edits made") for it in batch]
 
 
 def found_alone(words: list[str], crate: str, alone: list[Trial]) -> list[Result]:
     """Tries one edit; answers it in any case."""
-    if not any(file.startswith("specs/") for file, _, _ in alone[0].pairs):
+    if not makes_definition_wrong(alone[0]):
         return [prover.result(alone[0], False, "the edit makes no definition wrong")]
     failed, fault = failing(words, crate, alone)
     told = f"{', '.join(sorted(named(alone)))} of calls.c"
