@@ -25,6 +25,7 @@ def tool(tmp_path: Path, monkeypatch: pytest.MonkeyPatch) -> Callable[[str], Non
     monkeypatch.setattr(check, "LOGS", str(tmp_path / ".git"))
     monkeypatch.setattr(check, "CHECKS", {name: check.Check("tool", "", "") for name in ("pages", "live")})
     monkeypatch.setattr(check, "READS", {"live": "read"})
+    monkeypatch.setattr(check, "GIVEN", [])
 
     def written(script: str) -> None:
         (tmp_path / "tool").write_text(f"#!/bin/sh\n{script}\n")
@@ -72,14 +73,14 @@ def test_what_stands_on_the_test_command_waits_until_that_is_made(names: list[st
             pages.set()
         return name
 
-    def made(is_tested: bool) -> None:
-        assert is_tested == ("test" in names)
+    def made() -> None:
         assert "pages" not in names or pages.wait(10)
         told.append("made")
 
     monkeypatch.setattr(check, "CHECKS", {name: check.Check("tool", wants[name], "") for name in names})
     monkeypatch.setattr(check, "ends", ends)
     monkeypatch.setattr(check, "make_all", made)
+    monkeypatch.setattr(check, "has_passed_test", lambda: True)
     assert sorted(check.side_by_side([(name, []) for name in names])) == sorted(names)
     # Those beside test come in any order.
     before = ran.index("made") if "made" in ran else len(ran)
@@ -87,13 +88,15 @@ def test_what_stands_on_the_test_command_waits_until_that_is_made(names: list[st
 
 
 def test_where_nothing_is_made_the_others_still_end(monkeypatch: pytest.MonkeyPatch) -> None:
-    def made(is_tested: bool) -> None:
+    def made() -> None:
         raise Missing("no library")
 
     monkeypatch.setattr(check, "CHECKS", {"live": check.Check("tool", "library, root", "")})
     monkeypatch.setattr(check, "ends", lambda name, more, nice: name)
     monkeypatch.setattr(check, "make_all", made)
-    assert check.side_by_side([("live", [])]) == ["live"]
+    monkeypatch.setattr(check, "has_passed_test", lambda: False)
+    # It tells of the test command, too, which it ran as nothing that is here had passed it.
+    assert check.side_by_side([("live", [])]) == ["test", "live"]
 
 
 def test_the_end_has_the_longest_first_and_tells_what_did_not_run() -> None:
@@ -102,6 +105,8 @@ def test_the_end_has_the_longest_first_and_tells_what_did_not_run() -> None:
     assert check.summary(ended) == ["  10.0 min   20.0 of a processor  FAILED   live", "   0.1 min    0.1 of a processor  passed   pages",
                                     "   0.0 min    0.0 of a processor  not run  carry", "1 passed, 1 failed, 1 not run"]
     assert check.summary(ended[:1]) == ["1 passed, 0 failed"]
+    left_out = ended[0]._replace(skipped=("skipped: types: there is no mypy", "SKIPPED [1] a.py:3: not root"))
+    assert check.summary([left_out]) == ["pages: skipped: types: there is no mypy", "pages: SKIPPED [1] a.py:3: not root", "1 passed, 0 failed"]
 
 
 @pytest.mark.parametrize(
@@ -111,6 +116,8 @@ def test_the_end_has_the_longest_first_and_tells_what_did_not_run() -> None:
         ("echo last line; exit 1", "FAILED", "last line"),
         ("echo last line; exit 2", "not run", "last line"),
         ("echo 'row: inconclusive, the machine was too slow: a restart'; echo inconclusive: another; echo 2 passed", "passed", "2 passed, 2 inconclusive"),
+        ("echo skipped: one: no peer; echo '  skipped: two: not root'; echo 1 passed, 0 failed", "passed", "1 passed, 0 failed, 2 skipped"),
+        ("echo skipped: one: no peer; echo 0 passed, 0 failed", "not run", "0 passed, 0 failed, 1 skipped"),
     ],
 )
 def test_a_status_says_how_a_check_ended(script: str, how: str, last: str, tool: Callable[[str], None]) -> None:
@@ -136,7 +143,30 @@ def test_what_failed_or_ran_with_words_of_its_own_is_of_the_rest(tool: Callable[
     assert check.asked(["--rest"]) == [("pages", []), ("live", [])]
 
 
+def test_what_passes_over_a_library_that_is_given_is_of_the_rest(tool: Callable[[str], None], monkeypatch: pytest.MonkeyPatch) -> None:
+    tool("echo 1 passed, 0 failed")
+    monkeypatch.setattr(check, "GIVEN", ["LIBRARY"])
+    assert check.ends("live", []).how == "passed"
+    assert check.asked(["--rest"]) == [("pages", []), ("live", [])]
+
+
+def test_what_wants_the_toolchain_is_of_the_rest_by_another_one(tmp_path: Path, tool: Callable[[str], None], monkeypatch: pytest.MonkeyPatch) -> None:
+    tool("echo 1 passed, 0 failed")
+    (tmp_path / "read").write_text("as it was")
+    monkeypatch.setattr(check, "CHECKS", {name: check.Check("tool", wants, "") for name, wants in (("pages", ""), ("live", "library, root"))})
+    for version in "one", "another":
+        monkeypatch.setattr(check, "toolchain", lambda: version)
+        assert [name for name, _ in check.asked(["--rest"])] == ["pages", "live"][version == "another":]
+        assert check.ends("pages", []).how == check.ends("live", []).how == "passed"
+        assert check.asked(["--rest"]) == []
+
+
+def test_a_check_reads_programs_in_c_that_are_named_without_their_ending() -> None:
+    read = check.parts_of(os.path.join(loading.TOOLS, "maintain", "wrong-definitions"))
+    assert {f"tools/maintain/live.d/{it}.c" for it in ("calls", "checks", "conversations", "payloads")} <= {*read}
+
+
 def test_a_check_reads_its_tool_and_what_that_imports_and_names() -> None:
     read = check.parts_of(os.path.join(loading.TOOLS, "maintain", "peers"))
     assert {f"tools/{it}" for it in ("repository.py", *(f"maintain/{it}" for it in ("peers", "peers.d/hook.py", "live.d/usermode.py", "live.d/registers.c")))} <= {*read}
-    assert not any(it.startswith("tools/maintain/carry") or it.endswith("live.d/calls.c") for it in read)
+    assert not {"tools/maintain/carry", "tools/maintain/carry.d/bonds.py", "tools/maintain/live.d/fuzz.c"} & {*read}
