@@ -81,8 +81,8 @@ def settle(machine: Machine, theirs: Daemon, what: str) -> None:
 def boot_with(name: str) -> Callable[[Part], None]:
     def boot(part: Part) -> None:
         part.unhurried()
-        if not os.path.exists("/dev/net/tun") or os.stat("/dev/net/tun").st_mode & 0o666 != 0o666:
-            raise Skipped("there is no /dev/net/tun that each user may open, as udev makes it")
+        if not os.path.exists("/dev/net/tun"):
+            raise Skipped("there is no /dev/net/tun")
         if not shutil.which("ping"):
             raise Skipped("no command ping (Debian: iputils-ping)")
         with contextlib.closing(Machine(part, more=lay_over(Packages(PEERS, True), name))) as machine:

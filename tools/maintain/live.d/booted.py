@@ -46,7 +46,7 @@ mount -t cgroup2 cgroup2 sys/fs/cgroup
 for place in run tmp dev; do mount -t tmpfs tmpfs "$place"; done
 for device in null zero full random urandom tty; do touch "dev/$device"; mount --bind "/dev/$device" "dev/$device"; done
 mkdir dev/pts dev/shm dev/mqueue dev/hugepages dev/net
-touch dev/net/tun && mount --bind /dev/net/tun dev/net/tun || :
+mknod -m 666 dev/net/tun c 10 200
 mount -t devpts -o newinstance,ptmxmode=0666 devpts dev/pts
 ln -s pts/ptmx dev/ptmx
 ln -s /proc/self/fd dev/fd
