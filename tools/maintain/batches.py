@@ -1,4 +1,4 @@
-"""Wrong bodies, and statements of laws, that one check of a crate refuses, so that a check is not made for each.
+"""Wrong bodies, and statements of laws: those that one check of a crate refuses, so that a check is not made for each, and each other one by a check of its own.
 
 A function's proof knows of other functions what their contracts say, and whom they call, but not their bodies. So of wrong bodies of different functions
 each is refused, or not, as it would be alone; no edit adds a call that another one's would close to a cycle. So is each wrong statement of a law, which is
@@ -38,6 +38,12 @@ NAMED = re.compile(r"has no field|is not in scope|has no `|w(as|ere) not admitte
 OF_GOAL = re.compile(
     r"`[^`]*`: (?!.*(is not in scope|has no field|is no name|operand is missing|expected the end|cannot continue|w(as|ere) not admitted))"
 )
+# An error with its place: the declaration that it is of, if one reads, and what it says; and what that says where a text does not read.
+AT = re.compile(r"(?:\./)?([^\s:]+):\d+:\d+: error: (?:(`[^`]*`): )?(.*)")
+UNREAD = re.compile(r"is not in scope|has no field|is no name|operand is missing|expected the end|cannot continue")
+# What is said of an edit that the prover refuses, and of one of which it gave no verdict, so that it says nothing of the contract.
+REFUSED = "refused, as it must be"
+LIMITED = f"{REFUSED} (only by a limit"
 
 
 class Function(NamedTuple):
@@ -187,6 +193,33 @@ def blamed(crate: str, lines: Iterable[str]) -> dict[Place, str] | None:
     return found
 
 
+def does_not_read(line: str, changed: Iterable[str]) -> bool:
+    """Whether by this line the prover could not read a source, a definition or an edited file, where an edit that only makes a statement false reads well."""
+    at = AT.match(line)
+    if not at or at[1] not in changed and not at[1].startswith(("src/", "specs/")):
+        return False
+    return not at[2] or bool(UNREAD.search(re.sub(r"`[^`]*`", "", at[3])))
+
+
+def told_alone(changed: Iterable[str], status: int, lines: Sequence[str]) -> str:
+    """What is said of one edit that changes these files, by the status and the lines of its check, in the words of `rt must-fail`."""
+    unread = next((it for it in lines if does_not_read(it, changed)), "")
+    if unread:
+        return f"BAD EDIT: the prover cannot read the edited text, so no contract was tried: {unread[:200]}"
+    if status == 0:
+        return "NOT REFUSED: the crate is still proved with this edit"
+    if status != 1 or not lines or not lines[-1].startswith("logic=not-proved"):
+        return f"BAD EDIT: it did not reach the prover: {' '.join(lines[:3])[:300]}"
+    told = [it for it in lines if ERROR.match(it) and not NO_VERDICT.match(it)]
+    first = next((it for it in told if not (it.startswith(("proofs/", "./proofs/")) and NAMED.search(it))), "")
+    limit = next((it for it in lines if NO_VERDICT.match(it)), "")
+    if first:
+        return f"{REFUSED}: {first[:160]}"
+    if limit or not told:
+        return f"{LIMITED} of the prover, which gave no verdict): {limit[:160]}"
+    return f"{REFUSED} (only because a proof file names what the edit took away): {told[0][:160]}"
+
+
 class Checker:
     """Checks copies of a crate, over what `rt check` kept in its folder, which it changes in nothing."""
 
@@ -195,8 +228,8 @@ class Checker:
         self.rt: Any = rtlib()
         self.words = [*self.rt.guarded(), self.rt.RATTLE, "check", *self.rt.Crate(self.folder, top, {}).words(["--jobs", "1"], keeps=False)]
 
-    def lines(self, texts: dict[str, str]) -> list[str]:
-        """What the prover says of the crate with these texts in place of its own."""
+    def checked(self, texts: dict[str, str], with_kept: bool = True) -> tuple[int, list[str]]:
+        """The status and the lines of a check of the crate with these texts in place of its own; without what is kept, from nothing."""
 
         def taken(one: str, other: str) -> None:
             if one.endswith(".oantt"):
@@ -210,11 +243,26 @@ class Checker:
                     shutil.copytree(os.path.join(self.folder, part), os.path.join(room, part))
             for file, text in texts.items():
                 write(os.path.join(room, file), text)
-            kept: str = shutil.copytree(os.path.join(self.folder, "out", "incremental"), os.path.join(room, "kept"), copy_function=taken)
-            words = [*self.words, "--incremental", kept]
+            words = list(self.words)
+            if with_kept:
+                kept: str = shutil.copytree(os.path.join(self.folder, "out", "incremental"), os.path.join(room, "kept"), copy_function=taken)
+                words += ["--incremental", kept]
             ran = subprocess.run(words, cwd=room, stdin=subprocess.DEVNULL, stdout=subprocess.PIPE, stderr=subprocess.STDOUT, text=True, errors="replace")
-        lines = ran.stdout.splitlines()
-        return lines if ran.returncode == 1 and lines and lines[-1].startswith("logic=not-proved") else []
+        return ran.returncode, ran.stdout.splitlines()
+
+    def lines(self, texts: dict[str, str]) -> list[str]:
+        """What the prover says of the crate with these texts in place of its own, where it refuses that."""
+        status, lines = self.checked(texts)
+        return lines if status == 1 and lines and lines[-1].startswith("logic=not-proved") else []
+
+    def alone(self, trial: Trial) -> str:
+        """What is said of this edit by itself; where it is not refused over what is kept, it is tried again from nothing."""
+        was, now, fault = replaced(self.folder, trial.pairs)
+        if fault or was == now:
+            return f"BAD EDIT: {fault or 'it changes nothing'}"
+        texts = {os.path.relpath(path, self.folder): text for path, text in now.items()}
+        said = told_alone(texts, *self.checked(texts))
+        return said if said.startswith(REFUSED) and not said.startswith(LIMITED) else told_alone(texts, *self.checked(texts, with_kept=False))
 
     def refused(self, batch: Sequence[Trial]) -> dict[str, str]:
         """Of these edits, by their names, those that the prover refuses for sure, each with what it says of it."""

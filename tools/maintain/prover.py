@@ -1,8 +1,8 @@
 """Edits that the prover has to refuse: what wrong-bodies and wrong-definitions share.
 
 The crates are copied to a temporary folder, and proved there over the libraries of those below, side by side. Over what that kept, one check
-tries many of them (batches.py), and `rt must-fail` each other one, as a file of must-fail. What it kept is left in the crate's own folder, where nothing
-is kept yet, so that the next tool proves nothing again.
+tries many of them, and each other one has a check of its own (batches.py), side by side. What it kept is left in the crate's own folder, where nothing is
+kept yet, so that the next tool proves nothing again.
 """
 
 from __future__ import annotations
@@ -14,42 +14,21 @@ import shutil
 import subprocess
 import sys
 from concurrent.futures import ThreadPoolExecutor
-from typing import Iterable, Iterator, NamedTuple
+from typing import Iterable, Iterator
 
 import batches
-from edits import Trial, copy_crates, write
+from batches import LIMITED, REFUSED
+from edits import Trial, copy_crates
 from lanes import lanes
 from processors import rtlib, take_libraries
 from repository import CRATES, RT, Missing
 
 # An edit, whether it passed, and what to print.
 Result = tuple[Trial, bool, str]
-# What `rt` says of an edit, of how far it is, and of an edit that the prover refuses.
-TOLD = re.compile(r"rt: must-fail (\w+)/(\S+)\.edit: (.*)")
+# What `rt` says of how far it is.
 AT = re.compile(r"rt: \w+(: its tests are)? (proved|NOT PROVED)|rt: \w+: trying its ")
-REFUSED = "refused, as it must be"
 # Where `rt check` keeps in a crate's folder `out` what it proved.
 KEPT = "incremental"
-# The prover gave no verdict: it says nothing of the contract.
-LIMITED = f"{REFUSED} (only by a limit"
-
-
-class Attempt(NamedTuple):
-    """An edit with the text of the file of must-fail as which it is tried, where it is tried alone."""
-
-    trial: Trial
-    text: str
-
-
-def attempt(trial: Trial) -> Attempt:
-    """A stored edit."""
-    rows, last = [], ""
-    for file, old, new in trial.pairs:
-        if file != last:
-            rows.append(f"file: {file}")
-        rows += [f"old: {old}", f"new: {new}"]
-        last = file
-    return Attempt(trial, "\n".join(rows) + "\n")
 
 
 def ran(folder: str, *words: str) -> list[str]:
@@ -76,7 +55,7 @@ def result(trial: Trial, is_right: bool, text: str) -> Result:
 
 
 def judged(text: str | None) -> tuple[bool, str]:
-    """Whether an edit passed of which `rt` said this, and what to print."""
+    """Whether an edit passed of which this was said, and what to print."""
     if text is None:
         return False, "was not tried, as its crate is not proved as it stands"
     return text.startswith(REFUSED) and not text.startswith(LIMITED), text
@@ -97,20 +76,22 @@ def leave_kept(crate: str, own: str) -> None:
         shutil.rmtree(part, ignore_errors=True)
 
 
-def refused_together(pool: ThreadPoolExecutor, folder: str, attempts: list[Attempt]) -> dict[Attempt, str]:
-    """What the prover says of those of these attempts that it refuses together with others, over what is kept of their crates."""
-    crates = {name: batches.Checker(folder, name) for name in dict.fromkeys(it.trial.crate for it in attempts)}
-    of = {(it.trial.crate, it.trial.name): it for it in attempts}
+def said_of(pool: ThreadPoolExecutor, folder: str, trials: list[Trial]) -> dict[Trial, str]:
+    """What the prover says of each of these edits, over what is kept of their crates: of those that it refuses together with others, then of each other one."""
+    crates = {name: batches.Checker(folder, name) for name in dict.fromkeys(it.crate for it in trials)}
+    of = {(it.crate, it.name): it for it in trials}
     asked = [(name, pool.submit(checker.refused, batch)) for name, checker in crates.items()
-             for batch in batches.batches(checker.folder, [it.trial for it in attempts if it.trial.crate == name])]
-    return {of[name, edit]: f"{REFUSED}: {line[:160]}" for name, found in asked for edit, line in found.result().items()}
+             for batch in batches.batches(checker.folder, [it for it in trials if it.crate == name])]
+    said = {of[name, edit]: f"{REFUSED}: {line[:160]}" for name, found in asked for edit, line in found.result().items()}
+    alone = [it for it in trials if it not in said]
+    return {**said, **dict(zip(alone, pool.map(lambda it: crates[it.crate].alone(it), alone)))}
 
 
-def tried(folder: str, attempts: list[Attempt]) -> Iterator[Result]:
+def tried(folder: str, trials: list[Trial]) -> Iterator[Result]:
     """Tries these edits, over what is kept; one of which nothing is said has failed, as where its crate is not proved as it stands."""
     take_libraries()
-    top, rt = copy_crates(folder, dict.fromkeys(it.trial.crate for it in attempts), with_kept=True), rtlib()
-    names = sorted(dict.fromkeys(it.trial.crate for it in attempts), key=lambda it: -size(os.path.join(top, it)))
+    top, rt = copy_crates(folder, dict.fromkeys(it.crate for it in trials), with_kept=True), rtlib()
+    names = sorted(dict.fromkeys(it.crate for it in trials), key=lambda it: -size(os.path.join(top, it)))
     # More jobs of one crate take more of the processors in all.
     jobs, checks = ["--jobs", "1"] if len(names) >= lanes() else [], [*rt.guarded(), rt.RATTLE, "check"]
 
@@ -128,13 +109,8 @@ def tried(folder: str, attempts: list[Attempt]) -> Iterator[Result]:
 
     with ThreadPoolExecutor(lanes()) as pool:
         proved = [name for name, is_well in zip(names, pool.map(is_proved, names)) if is_well]
-        said = refused_together(pool, folder, [it for it in attempts if it.trial.crate in proved])
-    alone = [it for it in attempts if it not in said and it.trial.crate in proved]
-    for it in alone:
-        write(os.path.join(top, it.trial.crate, "must-fail", f"{it.trial.name}.edit"), it.text)
-    lines = ran(folder, "must-fail", *dict.fromkeys(it.trial.crate for it in alone)) if alone else []
-    told = {(it[1], it[2]): it[3] for it in filter(None, map(TOLD.match, lines))}
-    yield from (result(it.trial, *judged(said.get(it) or told.get((it.trial.crate, it.trial.name)))) for it in attempts)
+        said = said_of(pool, folder, [it for it in trials if it.crate in proved])
+    yield from (result(it, *judged(said.get(it))) for it in trials)
 
 
 def named(every: dict[str, list[Trial]], words: list[str]) -> list[Trial]:

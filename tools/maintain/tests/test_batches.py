@@ -151,3 +151,42 @@ def test_each_edit_of_a_batch_wants_a_line_of_its_own(crate: str, monkeypatch: p
     ):
         monkeypatch.setattr(checker, "lines", lambda texts: lines)
         assert checker.refused(batch) == wanted
+
+
+GOAL = "note: src/a.rt:3:4: it is not proved that what the function ensures holds when it returns (`returns`); `search` gave up at one of its limits"
+GONE, LIMIT = "./proofs/A.antt:1:2: error: `b`: `c` is not in scope", "./proofs/A.antt:1:2: error: `b`: it ran out of the steps that the check has"
+OPEN = "logic=not-proved functions=3"
+
+
+@pytest.mark.parametrize(
+    ("status", "lines", "said"),
+    [
+        (1, [GONE, GOAL, OPEN], f"refused, as it must be: {GOAL[:160]}"),
+        (1, ["./proofs/A.antt:3:4: error: `b`: no", OPEN], "refused, as it must be: ./proofs/A.antt:3:4: error: `b`: no"),
+        (1, [GONE, OPEN], f"refused, as it must be (only because a proof file names what the edit took away): {GONE}"),
+        (1, [GONE, LIMIT, OPEN], f"refused, as it must be (only by a limit of the prover, which gave no verdict): {LIMIT}"),
+        (1, [OPEN], "refused, as it must be (only by a limit of the prover, which gave no verdict): "),
+        (1, ["src/a.rt:1:2: error: expected `;`", OPEN], "BAD EDIT: the prover cannot read the edited text, so no contract was tried: src/a.rt:1:2: error: expected `;`"),
+        (1, ["./specs/B.antt:1:2: error: `b`: `c` is not in scope", OPEN],
+         "BAD EDIT: the prover cannot read the edited text, so no contract was tried: ./specs/B.antt:1:2: error: `b`: `c` is not in scope"),
+        (0, ["logic=proved functions=3"], "NOT REFUSED: the crate is still proved with this edit"),
+        (3, [GOAL, "rattle: no verdict"], f"BAD EDIT: it did not reach the prover: {GOAL} rattle: no verdict"),
+        (-9, [], "BAD EDIT: it did not reach the prover: "),
+    ],
+)
+def test_what_is_said_of_one_edit_by_itself(status: int, lines: list[str], said: str) -> None:
+    assert batches.told_alone({"src/a.rt"}, status, lines) == said
+
+
+def test_an_edit_that_is_not_refused_over_what_is_kept_is_tried_from_nothing(crate: str, monkeypatch: pytest.MonkeyPatch) -> None:
+    checker = batches.Checker.__new__(batches.Checker)
+    checker.folder = crate
+    asked: list[bool] = []
+
+    def checked(texts: dict[str, str], with_kept: bool = True) -> tuple[int, list[str]]:
+        asked.append(with_kept)
+        return (0, ["logic=proved"]) if with_kept else (1, [GOAL, OPEN])
+
+    monkeypatch.setattr(checker, "checked", checked)
+    assert (checker.alone(TRIALS["of_first"]), asked) == (f"refused, as it must be: {GOAL[:160]}", [True, False])
+    assert checker.alone(edits.Trial("low", "x", (("src/a.rt", "is not there", ""),))).startswith("BAD EDIT: the old text stands in src/a.rt 0 times")

@@ -101,13 +101,6 @@ EDITS = {"one": (("src/a.rt", "1", "2"), ("src/a.rt", "return 3;", ""), ("specs/
 TRIALS = [edits.Trial("captures", name, pairs) for name, pairs in EDITS.items()]
 
 
-def test_an_edit_is_a_file_of_must_fail() -> None:
-    text = "file: src/a.rt\nold: 1\nnew: 2\nold: return 3;\nnew: \nfile: specs/A.antt\nold: 4\nnew: 5\n"
-    assert prover.attempt(TRIALS[0]) == (TRIALS[0], text)
-    for it in edits.must_fail("cables"):
-        assert edits.read_trial("cables", it.name, prover.attempt(it).text.splitlines()) == it
-
-
 @pytest.mark.parametrize(
     ("text", "right"),
     [
@@ -135,15 +128,21 @@ def fake(monkeypatch: pytest.MonkeyPatch, folder: Path, *lines: str, status: int
 
 
 ERROR = "./proofs/A.antt:3:4: error: no"
-PASSED = "rt: must-fail captures/one.edit: refused, as it must be: note: src/a.rt:3:4: it is not proved"
+REFUSED = "refused, as it must be: note: src/a.rt:3:4: it is not proved"
 
 
 def test_each_edit_that_is_asked_has_a_line(tmp_path: Path, monkeypatch: pytest.MonkeyPatch, capsys: pytest.CaptureFixture[str]) -> None:
-    fake(monkeypatch, tmp_path, PASSED, "rt: must-fail captures/another.edit: refused, as it must be", status=1)
-    results = list(prover.tried(str(tmp_path / "copy"), [prover.attempt(it) for it in TRIALS]))
+    fake(monkeypatch, tmp_path)
+    asked: list[str] = []
+
+    def alone(checker: prover.batches.Checker, trial: edits.Trial) -> str:
+        asked.append(trial.name)
+        return {"one": REFUSED, "other": "NOT REFUSED: the crate is still proved with this edit"}[trial.name]
+
+    monkeypatch.setattr(prover.batches.Checker, "alone", alone)
+    results = list(prover.tried(str(tmp_path / "copy"), TRIALS))
     assert [(trial.name, is_right) for trial, is_right, _ in results] == [("one", True), ("other", False)]
-    assert "was not tried" in results[1][2]
-    assert sorted(it.name for it in (tmp_path / "copy" / "crates" / "captures" / "must-fail").iterdir()) == ["one.edit", "other.edit"]
+    assert sorted(asked) == ["one", "other"] and "NOT REFUSED" in results[1][2]
     assert prover.told(iter(results)) == 1
     assert capsys.readouterr().out.endswith("\n1 passed, 1 failed\n")
     assert (prover.told(iter(results[:1])), prover.told(iter(()))) == (0, 1)
@@ -165,7 +164,7 @@ def test_why_a_crate_is_not_proved_is_told(tmp_path: Path, monkeypatch: pytest.M
     prover.ran(str(tmp_path), "ci")
     assert capsys.readouterr().err == f"rt: low proved\n== captures\n{ERROR}\nrt: captures NOT PROVED\n"
     (tmp_path / "rt").write_text(f"#!/bin/sh\necho '{ERROR}'\nexit 1\n")
-    assert [it[1] for it in prover.tried(str(tmp_path / "copy"), [prover.attempt(TRIALS[0])])] == [False]
+    assert [it[1] for it in prover.tried(str(tmp_path / "copy"), TRIALS[:1])] == [False]
     assert capsys.readouterr().err == f"captures is not proved:\n{ERROR}\n"
     fake(monkeypatch, tmp_path, "rt: crates.txt names no crate", status=2)
     with pytest.raises(Missing, match="ci ended with status 2:\nrt: crates.txt names no crate"):

@@ -14,7 +14,7 @@ from typing import Iterable, Iterator
 
 import prover
 from edits import DEFINITIONS, Trial, apply, copy_crates, restore, write
-from prover import Attempt, Result
+from prover import Result
 from repository import RT, read_text
 
 CRATES = ("lagmodel", "lagnetwork", "lagfleet", "lagbeside", "lagprogress")
@@ -77,20 +77,19 @@ def try_counterexample(folder: str, trial: Trial, path: str) -> tuple[bool, str]
 
 
 def names_below(trial: Trial) -> bool:
-    """Whether an edit names files of a crate below, so that it is none of must-fail."""
+    """Whether an edit names files of a crate below, which has to be proved still."""
     return any(file.startswith("..") for file, _, _ in trial.pairs)
 
 
-def attempts(trials: list[Trial]) -> list[Attempt]:
-    """Those of these edits that are tried as must-fail."""
-    return [prover.attempt(it) for it in trials if it.crate in CRATES and not it.fault() and not names_below(it)]
+def of_own_crate(trials: list[Trial]) -> list[Trial]:
+    """Those of these edits that are tried as wrong bodies are."""
+    return [it for it in trials if it.crate in CRATES and not it.fault() and not names_below(it)]
 
 
-def read_on(results: Iterable[Result], laws: list[Attempt]) -> Iterator[Result]:
-    """These results; one of these attempts that is refused only as a definition does not read any more has failed."""
-    tried = {id(it.trial) for it in laws}
+def read_on(results: Iterable[Result]) -> Iterator[Result]:
+    """These results; an edit that is refused only as a definition does not read any more has failed."""
     for trial, is_right, text in results:
-        file = unread([text.removeprefix(f"{prover.REFUSED}: ")]) if id(trial) in tried else None
+        file = unread([text.removeprefix(f"{prover.REFUSED}: ")])
         yield prover.result(trial, False, f"{file} does not read any more") if file else (trial, is_right, text)
 
 
