@@ -8,6 +8,7 @@ from pathlib import Path
 import pytest
 
 import loading
+import batches
 import edits
 
 import prover
@@ -128,18 +129,18 @@ def fake(monkeypatch: pytest.MonkeyPatch, folder: Path, *lines: str, status: int
 
 
 ERROR = "./proofs/A.antt:3:4: error: no"
-REFUSED = "refused, as it must be: note: src/a.rt:3:4: it is not proved"
+TOLD = "refused, as it must be: note: src/a.rt:3:4: it is not proved"
 
 
 def test_each_edit_that_is_asked_has_a_line(tmp_path: Path, monkeypatch: pytest.MonkeyPatch, capsys: pytest.CaptureFixture[str]) -> None:
     fake(monkeypatch, tmp_path)
     asked: list[str] = []
 
-    def alone(checker: prover.batches.Checker, trial: edits.Trial) -> str:
+    def alone(checker: batches.Checker, trial: edits.Trial) -> str:
         asked.append(trial.name)
-        return {"one": REFUSED, "other": "NOT REFUSED: the crate is still proved with this edit"}[trial.name]
+        return {"one": TOLD, "other": "NOT REFUSED: the crate is still proved with this edit"}[trial.name]
 
-    monkeypatch.setattr(prover.batches.Checker, "alone", alone)
+    monkeypatch.setattr(batches.Checker, "alone", alone)
     results = list(prover.tried(str(tmp_path / "copy"), TRIALS))
     assert [(trial.name, is_right) for trial, is_right, _ in results] == [("one", True), ("other", False)]
     assert sorted(asked) == ["one", "other"] and "NOT REFUSED" in results[1][2]

@@ -13,6 +13,7 @@ import subprocess
 from typing import Iterable, Iterator
 
 import prover
+from batches import REFUSED
 from edits import DEFINITIONS, Trial, apply, copy_crates, restore, write
 from prover import Result
 from repository import RT, read_text
@@ -52,7 +53,7 @@ def try_below(top: str, trial: Trial) -> tuple[bool, str]:
     file = unread(errors)
     if file or not errors:
         return False, f"{file or 'something'} does not read any more"
-    return True, f"{prover.REFUSED}: {errors[0][:160]}"
+    return True, f"{REFUSED}: {errors[0][:160]}"
 
 
 def try_counterexample(folder: str, trial: Trial, path: str) -> tuple[bool, str]:
@@ -89,7 +90,7 @@ def of_own_crate(trials: list[Trial]) -> list[Trial]:
 def read_on(results: Iterable[Result]) -> Iterator[Result]:
     """These results; an edit that is refused only as a definition does not read any more has failed."""
     for trial, is_right, text in results:
-        file = unread([text.removeprefix(f"{prover.REFUSED}: ")])
+        file = unread([text.removeprefix(f"{REFUSED}: ")])
         yield prover.result(trial, False, f"{file} does not read any more") if file else (trial, is_right, text)
 
 
