@@ -40,6 +40,7 @@ OF_GOAL = re.compile(
 )
 # An error with its place: the declaration that it is of, if one reads, and what it says; and what that says where a text does not read.
 AT = re.compile(r"(?:\./)?([^\s:]+):\d+:\d+: error: (?:(`[^`]*`): )?(.*)")
+NOTE = re.compile(r"note: \S+:\d+:\d+: ")
 UNREAD = re.compile(r"is not in scope|has no field|is no name|operand is missing|expected the end|cannot continue")
 # What is said of an edit that the prover refuses, and of one of which it gave no verdict, so that it says nothing of the contract.
 REFUSED = "refused, as it must be"
@@ -210,7 +211,7 @@ def told_alone(changed: Iterable[str], status: int, lines: Sequence[str]) -> str
         return "NOT REFUSED: the crate is still proved with this edit"
     if status != 1 or not lines or not lines[-1].startswith("logic=not-proved"):
         return f"BAD EDIT: it did not reach the prover: {' '.join(lines[:3])[:300]}"
-    told = [it for it in lines if ERROR.match(it) and not NO_VERDICT.match(it)]
+    told = [it for it in lines if ERROR.match(it) and not NO_VERDICT.match(it)] or [it for it in lines if NOTE.match(it) and not NO_VERDICT.match(it)]
     first = next((it for it in told if not (it.startswith(("proofs/", "./proofs/")) and NAMED.search(it))), "")
     limit = next((it for it in lines if NO_VERDICT.match(it)), "")
     if first:

@@ -165,6 +165,7 @@ OPEN = "logic=not-proved functions=3"
         (1, ["./proofs/A.antt:3:4: error: `b`: no", OPEN], "refused, as it must be: ./proofs/A.antt:3:4: error: `b`: no"),
         (1, [GONE, OPEN], f"refused, as it must be (only because a proof file names what the edit took away): {GONE}"),
         (1, [GONE, LIMIT, OPEN], f"refused, as it must be (only by a limit of the prover, which gave no verdict): {LIMIT}"),
+        (1, ["note: src/a.rt:3:4: it calls itself", OPEN], "refused, as it must be: note: src/a.rt:3:4: it calls itself"),
         (1, [OPEN], "refused, as it must be (only by a limit of the prover, which gave no verdict): "),
         (1, ["src/a.rt:1:2: error: expected `;`", OPEN], "BAD EDIT: the prover cannot read the edited text, so no contract was tried: src/a.rt:1:2: error: expected `;`"),
         (1, ["./specs/B.antt:1:2: error: `b`: `c` is not in scope", OPEN],
