@@ -35,13 +35,11 @@ ANSWERS = re.compile(r"proofs/(?:(.+)/)?(\w+)/Answers\.antt$")
 # What a proof says where an edit took away what it names.
 NAMED = re.compile(r"has no field|is not in scope|has no `|w(as|ere) not admitted")
 # What an error of a source says that is of a goal; without a goal before it the prover could not read the source.
-OF_GOAL = re.compile(
-    r"`[^`]*`: (?!.*(is not in scope|has no field|is no name|operand is missing|expected the end|cannot continue|w(as|ere) not admitted))"
-)
-# An error with its place: the declaration that it is of, if one reads, and what it says; and what that says where a text does not read.
+UNREAD = r"is not in scope|has no field|is no name|operand is missing|expected the end|cannot continue"
+OF_GOAL = re.compile(rf"`[^`]*`: (?!.*({UNREAD}|w(as|ere) not admitted))")
+# An error with its place: the declaration that it is of, if one reads, and what it says; and a note with its place.
 AT = re.compile(r"(?:\./)?([^\s:]+):\d+:\d+: error: (?:(`[^`]*`): )?(.*)")
 NOTE = re.compile(r"note: \S+:\d+:\d+: ")
-UNREAD = re.compile(r"is not in scope|has no field|is no name|operand is missing|expected the end|cannot continue")
 # What is said of an edit that the prover refuses, and of one of which it gave no verdict, so that it says nothing of the contract.
 REFUSED = "refused, as it must be"
 LIMITED = f"{REFUSED} (only by a limit"
@@ -199,7 +197,7 @@ def does_not_read(line: str, changed: Iterable[str]) -> bool:
     at = AT.match(line)
     if not at or at[1] not in changed and not at[1].startswith(("src/", "specs/")):
         return False
-    return not at[2] or bool(UNREAD.search(re.sub(r"`[^`]*`", "", at[3])))
+    return not at[2] or bool(re.search(UNREAD, re.sub(r"`[^`]*`", "", at[3])))
 
 
 def told_alone(changed: Iterable[str], status: int, lines: Sequence[str]) -> str:
