@@ -215,7 +215,7 @@ def told_alone(changed: Iterable[str], status: int, lines: Sequence[str]) -> str
     if first:
         return f"{REFUSED}: {first[:160]}"
     if limit or not told:
-        return f"{LIMITED} of the prover, which gave no verdict): {limit[:160]}"
+        return f"{LIMITED} of the prover, which gave no verdict): {(limit or next((it for it in lines if ': no proof: ' in it), ''))[:160]}"
     return f"{REFUSED} (only because a proof file names what the edit took away): {told[0][:160]}"
 
 

@@ -76,19 +76,17 @@ def leave_kept(crate: str, own: str) -> None:
         shutil.rmtree(part, ignore_errors=True)
 
 
-def said_of(pool: ThreadPoolExecutor, folder: str, trials: list[Trial]) -> dict[Trial, str]:
-    """What the prover says of each of these edits, over what is kept of their crates: of those that it refuses together with others, then of each other one."""
-    crates = {name: batches.Checker(folder, name) for name in dict.fromkeys(it.crate for it in trials)}
-    of = {(it.crate, it.name): it for it in trials}
-    asked = [(name, pool.submit(checker.refused, batch)) for name, checker in crates.items()
-             for batch in batches.batches(checker.folder, [it for it in trials if it.crate == name])]
-    said = {of[name, edit]: f"{REFUSED}: {line[:160]}" for name, found in asked for edit, line in found.result().items()}
+def said_of(pool: ThreadPoolExecutor, folder: str, crate: str, trials: list[Trial]) -> dict[Trial, str]:
+    """What the prover says of each of these edits of a crate, over what is kept of it: of those that it refuses together with others, then of each other one."""
+    checker, of = batches.Checker(folder, crate), {it.name: it for it in trials}
+    asked = [pool.submit(checker.refused, batch) for batch in batches.batches(checker.folder, trials)]
+    said = {of[name]: f"{REFUSED}: {line[:160]}" for it in asked for name, line in it.result().items()}
     alone = [it for it in trials if it not in said]
-    return {**said, **dict(zip(alone, pool.map(lambda it: crates[it.crate].alone(it), alone)))}
+    return {**said, **dict(zip(alone, pool.map(checker.alone, alone)))}
 
 
 def tried(folder: str, trials: list[Trial]) -> Iterator[Result]:
-    """Tries these edits, over what is kept; one of which nothing is said has failed, as where its crate is not proved as it stands."""
+    """Tries these edits, those of a crate as soon as that is proved; one of which nothing is said has failed, as where its crate is not proved as it stands."""
     take_libraries()
     top, rt = copy_crates(folder, dict.fromkeys(it.crate for it in trials), with_kept=True), rtlib()
     names = sorted(dict.fromkeys(it.crate for it in trials), key=lambda it: -size(os.path.join(top, it)))
@@ -107,9 +105,13 @@ def tried(folder: str, trials: list[Trial]) -> Iterator[Result]:
             leave_kept(made.folder, os.path.join(CRATES, crate))
         return checked.returncode == 0
 
-    with ThreadPoolExecutor(lanes()) as pool:
-        proved = [name for name, is_well in zip(names, pool.map(is_proved, names)) if is_well]
-        said = said_of(pool, folder, [it for it in trials if it.crate in proved])
+    with ThreadPoolExecutor(lanes()) as pool, ThreadPoolExecutor(max(len(names), 1)) as waiting:
+        proved = {name: pool.submit(is_proved, name) for name in names}
+
+        def of_crate(crate: str) -> dict[Trial, str]:
+            return said_of(pool, folder, crate, [it for it in trials if it.crate == crate]) if proved[crate].result() else {}
+
+        said = {it: text for found in waiting.map(of_crate, names) for it, text in found.items()}
     yield from (result(it, *judged(said.get(it))) for it in trials)
 
 

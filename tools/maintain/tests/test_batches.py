@@ -155,6 +155,7 @@ def test_each_edit_of_a_batch_wants_a_line_of_its_own(crate: str, monkeypatch: p
 
 GOAL = "note: src/a.rt:3:4: it is not proved that what the function ensures holds when it returns (`returns`); `search` gave up at one of its limits"
 GONE, LIMIT = "./proofs/A.antt:1:2: error: `b`: `c` is not in scope", "./proofs/A.antt:1:2: error: `b`: it ran out of the steps that the check has"
+UNCOVERED = "fn a::f: no proof: expected `f_spec` in ./proofs/f/Proof.antt; the borrow checker does not cover this function yet"
 OPEN = "logic=not-proved functions=3"
 
 
@@ -167,6 +168,7 @@ OPEN = "logic=not-proved functions=3"
         (1, [GONE, LIMIT, OPEN], f"refused, as it must be (only by a limit of the prover, which gave no verdict): {LIMIT}"),
         (1, ["note: src/a.rt:3:4: it calls itself", OPEN], "refused, as it must be: note: src/a.rt:3:4: it calls itself"),
         (1, [OPEN], "refused, as it must be (only by a limit of the prover, which gave no verdict): "),
+        (1, [UNCOVERED, OPEN], f"refused, as it must be (only by a limit of the prover, which gave no verdict): {UNCOVERED}"),
         (1, ["src/a.rt:1:2: error: expected `;`", OPEN], "BAD EDIT: the prover cannot read the edited text, so no contract was tried: src/a.rt:1:2: error: expected `;`"),
         (1, ["./specs/B.antt:1:2: error: `b`: `c` is not in scope", OPEN],
          "BAD EDIT: the prover cannot read the edited text, so no contract was tried: ./specs/B.antt:1:2: error: `b`: `c` is not in scope"),
