@@ -56,9 +56,18 @@ def test_no_check_and_an_unknown_one_are_refused(words: list[str]) -> None:
 def test_no_two_checks_that_prove_in_one_folder_nor_two_that_measure_but_carry_run_at_a_time() -> None:
     carry, root, wrong, toolchain, packages, others = ([name for name, _ in it] for it in check.lanes(check.asked(["--all"])))
     assert sorted([*carry, *root, *wrong, *toolchain, *packages, *others]) == sorted(check.CHECKS)
-    assert all(check.CHECKS[it].wants == "toolchain" for it in (*wrong, *toolchain)) and wrong == ["wrong-bodies", "wrong-definitions"]
+    assert all(check.CHECKS[it].wants == "toolchain" for it in (*wrong, *toolchain)) and wrong == ["wrong-bodies", "wrong-definitions", "trusted"]
     assert (carry, {*root}, {*packages}) == (["carry"], {"live", "peers", "hosts"}, {"machines", "dist"})
     assert root[0] == "hosts" and [check.stands_on_proofs(it) for it in others] == sorted(map(check.stands_on_proofs, others))
+
+
+def test_what_two_would_make_into_one_folder_is_made_first(monkeypatch: pytest.MonkeyPatch) -> None:
+    told: list[str] = []
+    monkeypatch.setattr(check, "take_libraries", lambda: told.append("libraries"))
+    monkeypatch.setattr(check, "kernel_programs", lambda: told.append("programs"))
+    monkeypatch.setenv("LIBRARY", "liblagffi.a")
+    check.make_all()
+    assert told == ["libraries", "programs"]
 
 
 @pytest.mark.parametrize(("names", "ran"), [(["live", "pages", "test"], ["pages", "test", "made", "live"]), (["pages"], ["pages"]), (["live"], ["made", "live"])])
