@@ -77,7 +77,7 @@ def leave_kept(crate: str, own: str) -> None:
 
 
 def said_of(pool: ThreadPoolExecutor, folder: str, crate: str, trials: list[Trial]) -> dict[Trial, str]:
-    """What the prover says of each of these edits of a crate, over what is kept of it: of those that it refuses together with others, then of each other one."""
+    """What the prover says of each of these edits of a crate, over what is kept of it: of those that it refuses together, then of each other one."""
     checker, of = batches.Checker(folder, crate), {it.name: it for it in trials}
     asked = [pool.submit(checker.refused, batch) for batch in batches.batches(checker.folder, trials)]
     said = {of[name]: f"{REFUSED}: {line[:160]}" for it in asked for name, line in it.result().items()}
