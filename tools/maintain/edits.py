@@ -8,6 +8,7 @@ follows, up to the next one. It may name two files: the one of `old:` and `every
 from __future__ import annotations
 
 import os
+import re
 import shutil
 from dataclasses import dataclass
 from itertools import takewhile
@@ -17,6 +18,8 @@ from repository import CRATES, MAINTAIN, TOP, Missing, below, crates, lines, rea
 
 BODIES = os.path.join(MAINTAIN, "wrong-bodies.d")
 DEFINITIONS = os.path.join(MAINTAIN, "wrong-definitions.d")
+# The names of what a command of `rt`, or one of these tools, has not made to its end in a folder `out`: it gets another name then, or goes.
+UNFINISHED = re.compile(r"\.tmp[-.]|^rt-\w+-\d|^incremental\.\d")
 # A replacement: the file, the old text and the new one.
 Pair = tuple[str, str, str]
 
@@ -27,10 +30,13 @@ def write(path: str, text: str) -> None:
 
 
 def copy_crates(folder: str, crates: Iterable[str], with_kept: bool = False) -> str:
-    """Copies these crates and those of the repository that they stand on, without their edits, and with what `rt` kept of them where that is asked;
-    answers their folder."""
+    """Copies these crates and those of the repository that they stand on, without their edits, and with what `rt` kept of them where that is asked, also
+    while another command works there; answers their folder."""
     rows, taken = lines(), below(*crates)
-    left = shutil.ignore_patterns("must-fail", *(() if with_kept else ("out",)))
+
+    def left(_: str, names: list[str]) -> list[str]:
+        return [it for it in names if it == "must-fail" or it == "out" and not with_kept or UNFINISHED.search(it)]
+
     for name in taken:
         shutil.copytree(os.path.join(CRATES, name), os.path.join(folder, "crates", name), ignore=left)
     write(os.path.join(folder, "crates.txt"), "".join(f"{rows[name]}\n" for name in taken))

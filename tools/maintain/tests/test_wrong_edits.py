@@ -160,6 +160,20 @@ def test_what_was_proved_of_a_copy_is_left_where_nothing_is_kept(tmp_path: Path)
         assert (os.listdir(f"{own}/out"), os.listdir(kept), (tmp_path / "own/out/incremental/a").read_text()) == (["incremental"], ["a"], "new")
 
 
+def test_what_another_command_has_not_made_to_its_end_is_not_copied(tmp_path: Path, monkeypatch: pytest.MonkeyPatch) -> None:
+    source, made = "src/lib.rt", ["out/incremental/a.oantt", "out/rlib/cables.rlib/a"]
+    part = ["out/incremental/b.oantt.tmp.7", "out/incremental.7/a.oantt", "out/rlib/cables.rlib.tmp-7/a", "out/rt-work-7-x/a"]
+    for file in [source, *made, *part, "must-fail/x.edit"]:
+        edits.write(str(tmp_path / "crates" / "cables" / file), "")
+    monkeypatch.setattr(edits, "CRATES", str(tmp_path / "crates"))
+
+    def copied(with_kept: bool) -> list[str]:
+        crate = Path(edits.copy_crates(str(tmp_path / f"{with_kept}"), ["cables"], with_kept), "cables")
+        return sorted(str(it.relative_to(crate)) for it in crate.rglob("*") if it.is_file())
+
+    assert (copied(True), copied(False)) == ([*made, source], [source])
+
+
 def test_why_a_crate_is_not_proved_is_told(tmp_path: Path, monkeypatch: pytest.MonkeyPatch, capsys: pytest.CaptureFixture[str]) -> None:
     fake(monkeypatch, tmp_path, "== low", "axioms", "rt: low proved", "== captures", ERROR, "rt: captures NOT PROVED", status=1)
     prover.ran(str(tmp_path), "ci")
