@@ -67,7 +67,33 @@ def test_what_two_would_make_into_one_folder_is_made_first(monkeypatch: pytest.M
     monkeypatch.setattr(check, "kernel_programs", lambda: told.append("programs"))
     monkeypatch.setenv("LIBRARY", "liblagffi.a")
     check.make_all()
-    assert told == ["libraries", "programs"]
+    assert told == ["programs", "libraries"]
+
+
+def test_the_library_is_made_where_the_programs_of_the_kernel_cannot_be(monkeypatch: pytest.MonkeyPatch, capsys: pytest.CaptureFixture[str]) -> None:
+    def no_clang() -> None:
+        raise Missing("no clang")
+
+    told: list[str] = []
+    monkeypatch.setattr(check, "take_libraries", lambda: told.append("libraries"))
+    monkeypatch.setattr(check, "kernel_programs", no_clang)
+    monkeypatch.setenv("LIBRARY", "liblagffi.a")
+    check.make_all()
+    assert told == ["libraries"] and "no clang" in capsys.readouterr().err
+
+
+def test_no_check_begins_once_all_is_stopped(monkeypatch: pytest.MonkeyPatch) -> None:
+    told: list[str] = []
+
+    def ends(name: str, more: list[str], nice: int) -> str:
+        told.append(name)
+        raise KeyboardInterrupt
+
+    monkeypatch.setattr(check, "CHECKS", {"live": check.Check("tool", "library, root", ""), "test": check.Check("tool", "toolchain", "")})
+    monkeypatch.setattr(check, "ends", ends)
+    with pytest.raises(KeyboardInterrupt):
+        check.side_by_side([("live", []), ("test", [])])
+    assert told == ["test"]
 
 
 @pytest.mark.parametrize(("names", "ran"), [(["live", "pages", "test"], ["pages", "test", "made", "live"]), (["pages"], ["pages"]), (["live"], ["made", "live"])])
@@ -127,6 +153,7 @@ def test_the_end_has_the_longest_first_and_tells_what_did_not_run() -> None:
         ("echo 'row: inconclusive, the machine was too slow: a restart'; echo inconclusive: another; echo 2 passed", "passed", "2 passed, 2 inconclusive"),
         ("echo skipped: one: no peer; echo '  skipped: two: not root'; echo 1 passed, 0 failed", "passed", "1 passed, 0 failed, 2 skipped"),
         ("echo skipped: one: no peer; echo 0 passed, 0 failed", "not run", "0 passed, 0 failed, 1 skipped"),
+        ("echo 1 passed, 0 failed; echo 9 processor minutes", "passed", "1 passed, 0 failed"),
     ],
 )
 def test_a_status_says_how_a_check_ended(script: str, how: str, last: str, tool: Callable[[str], None]) -> None:
@@ -144,6 +171,16 @@ def test_the_rest_is_what_has_not_passed_on_these_files(tmp_path: Path, tool: Ca
     assert check.asked(["--rest"]) == [("pages", [])]
     (tmp_path / "read").write_text("as it is")
     assert check.asked(["--rest"]) == [("pages", []), ("live", [])]
+
+
+def test_what_passed_and_fails_on_the_same_files_is_of_the_rest(tmp_path: Path, tool: Callable[[str], None]) -> None:
+    (tmp_path / "read").write_text("as it is")
+    tool("echo skipped: two: no peer; echo 1 passed, 0 failed; exit $(cat .git/status)")
+    for status, rest, skipped in ("0", [], ["skipped: two: no peer"]), ("2", [], ["skipped: two: no peer"]), ("1", ["live"], None):
+        (tmp_path / ".git" / "status").write_text(status)
+        check.ends("live", [])
+        assert [name for name, _ in check.asked(["--rest"]) if name == "live"] == rest
+        assert check.passed_before("live") == skipped
 
 
 def test_what_failed_or_ran_with_words_of_its_own_is_of_the_rest(tool: Callable[[str], None]) -> None:
