@@ -10,7 +10,7 @@ import shutil
 import subprocess
 from typing import Any, NamedTuple, Sequence
 
-from repository import CC, CRATES, RT, TOP, Missing, has_passed, kit, want, write_text
+from repository import CC, CRATES, RT, TOP, Missing, has_passed, kit, stood_at_verdict, want, write_text
 
 
 class Processor(NamedTuple):
@@ -114,12 +114,12 @@ def rtlib() -> Any:
 
 def take_libraries() -> None:
     """Has every command of rt take the libraries that the test command made of these sources, where that passed: it leaves them without the stamp by
-    which they are known to be of these sources. One with a stamp is of another command, which may have made it of other ones."""
+    which they are known to be of these sources. One with a stamp, or made since, is of another command, which may have made it of other ones."""
     if not has_passed():
         return
     for crate in rtlib().crates_below(CRATES):
         stamp = os.path.join(os.path.dirname(crate.rlib), "stamp")
-        if os.path.isdir(crate.rlib) and crate.folder.startswith(CRATES) and not os.path.exists(stamp):
+        if stood_at_verdict(crate.rlib) and crate.folder.startswith(CRATES) and not os.path.exists(stamp):
             write_text(stamp, crate.stamp())
 
 

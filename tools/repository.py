@@ -162,9 +162,14 @@ def has_passed() -> bool:
     return bool(re.match(r"[1-9]\d* passed, 0 failed", verdict() or ""))
 
 
+def stood_at_verdict(path: str) -> bool:
+    """Whether this file, or folder, stood there as the test command ended: another command may have made it since, of other sources."""
+    return os.path.exists(path) and os.path.getmtime(path) <= os.path.getmtime(VERDICT)
+
+
 def is_made_by_gate(path: str) -> bool:
     """Whether this file is one that the test command made of these sources, and passed."""
-    return has_passed() and os.path.isfile(path)
+    return has_passed() and stood_at_verdict(path)
 
 
 def make_program() -> None:

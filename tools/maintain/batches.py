@@ -11,6 +11,7 @@ from __future__ import annotations
 import os
 import re
 import shutil
+import signal
 import subprocess
 import tempfile
 from collections import Counter
@@ -246,7 +247,11 @@ class Checker:
             if with_kept:
                 kept: str = shutil.copytree(os.path.join(self.folder, "out", "incremental"), os.path.join(room, "kept"), copy_function=taken)
                 words += ["--incremental", kept]
-            ran = subprocess.run(words, cwd=room, stdin=subprocess.DEVNULL, stdout=subprocess.PIPE, stderr=subprocess.STDOUT, text=True, errors="replace")
+            for _ in range(2):
+                ran = subprocess.run(words, cwd=room, stdin=subprocess.DEVNULL, stdout=subprocess.PIPE, stderr=subprocess.STDOUT, text=True, errors="replace")
+                # One that the kernel ended, most likely for memory, is tried once more.
+                if ran.returncode != -signal.SIGKILL:
+                    break
         return ran.returncode, ran.stdout.splitlines()
 
     def lines(self, texts: dict[str, str]) -> list[str]:

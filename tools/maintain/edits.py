@@ -89,14 +89,19 @@ def read_trial(crate: str, name: str, rows: Iterable[str], named: Named | None =
         elif word == "file":
             named.file, _, named.body = text.partition(" ")
         elif word in ("old", "everywhere", "body"):
+            if old:
+                break
             file = named.body if word == "body" else named.file
             old = Everywhere(text) if word == "everywhere" else text
             if not file:
                 raise Missing(f"{crate}/{name}: no line `file:` says in which file this stands: {line}")
         elif file and (word == "new" or line == "new:"):
             pairs.append((file, old, text))
+            old = ""
         elif line:
             raise Missing(f"{crate}/{name}: not a line of an edit: {line}")
+    if old:
+        raise Missing(f"{crate}/{name}: no line `new:` says what stands in the place of: {old}")
     return Trial(crate, name, tuple(pairs), tuple(tests))
 
 
@@ -167,5 +172,5 @@ def restore(was: dict[str, str]) -> None:
 
 
 def is_cut_off(output: list[str], at: int) -> bool:
-    """Whether the test that has this line of the output ended at its time limit: that is no refusal."""
-    return any("time limit" in line for line in takewhile(lambda it: it.startswith(" "), output[at + 1 :]))
+    """Whether the test that has this line of the output ended at its time limit, or was killed, as for memory: that is no refusal."""
+    return any("time limit" in line or "killed by signal 9" in line for line in takewhile(lambda it: it.startswith(" "), output[at + 1 :]))

@@ -9,7 +9,6 @@ from __future__ import annotations
 
 import contextlib
 import os
-import re
 import shutil
 import subprocess
 import sys
@@ -25,28 +24,8 @@ from repository import CRATES, RT, Missing
 
 # An edit, whether it passed, and what to print.
 Result = tuple[Trial, bool, str]
-# What `rt` says of how far it is.
-AT = re.compile(r"rt: \w+(: its tests are)? (proved|NOT PROVED)|rt: \w+: trying its ")
 # Where `rt check` keeps in a crate's folder `out` what it proved.
 KEPT = "incremental"
-
-
-def ran(folder: str, *words: str) -> list[str]:
-    """Runs a command of `rt` in a folder of crates; answers its lines. How far it is goes to standard error, with the lines of a crate that is
-    not proved."""
-    found: list[str] = []
-    since: list[str] = []
-    given = {"RT_JOBS": str(lanes()), **os.environ}
-    with subprocess.Popen([RT, *words], cwd=folder, env=given, stdout=subprocess.PIPE, stderr=subprocess.STDOUT, text=True, errors="replace") as rt:
-        for line in rt.stdout or ():
-            found.append(line.rstrip("\n"))
-            since.append(line)
-            if AT.match(line):
-                print(*(since if "NOT PROVED" in line else [line]), sep="", end="", file=sys.stderr, flush=True)
-                since.clear()
-    if rt.returncode not in (0, 1):
-        raise Missing(f"{RT} {words[0]} ended with status {rt.returncode}:\n" + "".join(since[-12:]))
-    return found
 
 
 def result(trial: Trial, is_right: bool, text: str) -> Result:
@@ -82,7 +61,9 @@ def said_of(pool: ThreadPoolExecutor, folder: str, crate: str, trials: list[Tria
     asked = [pool.submit(checker.refused, batch) for batch in batches.batches(checker.folder, trials)]
     said = {of[name]: f"{REFUSED}: {line[:160]}" for it in asked for name, line in it.result().items()}
     alone = [it for it in trials if it not in said]
-    return {**said, **dict(zip(alone, pool.map(checker.alone, alone)))}
+    said.update(zip(alone, pool.map(checker.alone, alone)))
+    # A refusal says nothing where what is kept is refused as it stands.
+    return said if not pool.submit(checker.checked, {}).result()[0] else {}
 
 
 def tried(folder: str, trials: list[Trial]) -> Iterator[Result]:

@@ -2,11 +2,13 @@
 
 from __future__ import annotations
 
+import contextlib
+import fcntl
 import glob
 import os
 import shutil
 import subprocess
-from typing import Sequence
+from typing import Iterator, Sequence
 
 from checking import Skipped, command
 
@@ -18,6 +20,13 @@ class Packages:
         self.cache, self.may_fetch, self.known = os.path.abspath(cache), may_fetch, False
         self.root = os.path.join(self.cache, "root")
         self.sources = sources  # the lines of a sources.list; those of the machine, where there are none
+
+    @contextlib.contextmanager
+    def kept_out(self) -> Iterator[None]:
+        """Keeps every other run out of the cache folder meanwhile."""
+        with open(f"{self.cache}/lock", "w", encoding="utf-8") as lock:
+            fcntl.flock(lock, fcntl.LOCK_EX)
+            yield
 
     def apt(self, name: str, *words: str) -> subprocess.CompletedProcess[str]:
         """One of apt's commands, over lists and archives of our own and the installed packages of the machine, and its sources if none are given."""
@@ -36,9 +45,10 @@ class Packages:
             raise Skipped(f"not installed, and {why}")
         for folder in "lists/partial", "packages/archives/partial", "root":
             os.makedirs(f"{self.cache}/{folder}", exist_ok=True)
-        with open(f"{self.cache}/sources.list", "w", encoding="utf-8") as it:
-            it.write(self.sources)
-        told = self.apt("apt-get", "update")
+        with self.kept_out():
+            with open(f"{self.cache}/sources.list", "w", encoding="utf-8") as it:
+                it.write(self.sources)
+            told = self.apt("apt-get", "update")
         if told.returncode:
             raise Skipped(f"apt-get update: {told.stderr.strip()[-200:]}")
         self.known = True
@@ -57,23 +67,35 @@ class Packages:
     def fetch(self, *names: str, alone: Sequence[str] = ()) -> None:
         """Fetches and unpacks packages with what they need, and some alone; what is unpacked already is not fetched again."""
         done = os.path.join(self.cache, f"{'-'.join(names)[:80]}.done")
+        if not os.path.exists(done):
+            self.learn()
+            with self.kept_out():
+                self.fetch_new(names, alone, done)
+
+    def fetch_new(self, names: Sequence[str], alone: Sequence[str], done: str) -> None:
+        """Fetches and unpacks them, where no other run did so meanwhile; no archive is unpacked twice, as its programs may run."""
         if os.path.exists(done):
             return
-        self.learn()
         for words in ["install", "--yes", "--download-only", *names], ["download", *alone]:
             told = self.apt("apt-get", *words) if len(words) > 1 else None
             if told and told.returncode:
                 raise Skipped(f"apt-get {' '.join(words)[:60]}: {told.stderr.strip()[-200:]}")
         for archive in glob.glob(f"{self.cache}/packages/archives/*.deb"):
+            if os.path.exists(f"{archive}.unpacked"):
+                continue
             told = subprocess.run(["dpkg-deb", "-x", archive, self.root], capture_output=True, text=True)
             if told.returncode:
                 raise Skipped(f"{os.path.basename(archive)} cannot be unpacked: {told.stderr.strip()[-200:]}")
+            open(f"{archive}.unpacked", "w", encoding="utf-8").close()
         open(done, "w", encoding="utf-8").close()
 
     def path(self, name: str) -> str | None:
-        """The file of a command, of the machine or unpacked."""
-        folders = [f"{self.root}/{it}" for it in ("usr/sbin", "usr/bin", "sbin", "bin", "usr/lib/openvswitch-switch")]
-        return shutil.which(name) or shutil.which(name, path=":".join([*folders, "/usr/lib/openvswitch-switch"]))
+        """The file of a command, of the machine or unpacked, once no other run unpacks any."""
+        found = shutil.which(name) or shutil.which(name, path="/usr/lib/openvswitch-switch")
+        if found or not os.path.isdir(self.root):
+            return found
+        with self.kept_out():
+            return shutil.which(name, path=":".join(f"{self.root}/{it}" for it in ("usr/sbin", "usr/bin", "sbin", "bin", "usr/lib/openvswitch-switch")))
 
     def program(self, name: str) -> str:
         """The file of a command that has to be here."""

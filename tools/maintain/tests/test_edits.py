@@ -51,6 +51,8 @@ def test_another_line_is_refused_with_its_edit() -> None:
         (["file: specs/A.antt", "old: a", "new: b", "body: a", "new: b"], "no line `file:` says in which file this stands: body: a"),
         (["file: specs/A.antt src/a.rt", "old: a", "new: b", "file: specs/B.antt", "body: a"], "in which file this stands: body: a"),
         (["file: src/a.rt", "new: b"], "not a line of an edit: new: b"),
+        (["file: src/a.rt", "old: a", "old: b", "new: c"], "no line `new:` says what stands in the place of: a"),
+        (["file: src/a.rt", "old: a", "new: b", "old: c"], "no line `new:` says what stands in the place of: c"),
         (["refused-by: tests_system", "file: src/a.rt"], "a line `refused-by:` has a crate and its tests: refused-by: tests_system"),
     ],
 )
@@ -135,9 +137,9 @@ def test_everywhere_is_each_place(crate: Path) -> None:
     assert (fault, (crate / "src" / "a.rt").read_text()) == (None, "9 two 9\n")
 
 
-def test_a_test_at_its_time_limit_refuses_nothing() -> None:
-    output = ["test a ... FAILED", "  it took the time limit of 60 s", "test b ... FAILED", "  7 and not 8", "the time limit"]
-    assert [edits.is_cut_off(output, at) for at in (0, 2)] == [True, False]
+def test_a_test_that_ends_at_its_time_limit_or_is_killed_refuses_nothing() -> None:
+    output = ["test a ... FAILED", "  it took the time limit of 60 s", "test b ... FAILED", "  7 and not 8", "the time limit", "test c ... FAILED", "  it was killed by signal 9"]
+    assert [edits.is_cut_off(output, at) for at in (0, 2, 5)] == [True, False, True]
 
 
 @pytest.mark.parametrize("crate", crates())

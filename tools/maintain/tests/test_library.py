@@ -2,6 +2,7 @@
 
 from __future__ import annotations
 
+import os
 from pathlib import Path
 from types import SimpleNamespace
 
@@ -9,6 +10,7 @@ import pytest
 
 import loading
 import processors
+import repository
 from repository import Missing, read_text
 
 library = loading.module("", "library")
@@ -59,16 +61,19 @@ def test_a_command_that_fails_or_is_not_here_is_told(words: list[str], why: str)
 
 
 def test_a_library_of_another_command_keeps_its_stamp(tmp_path: Path, monkeypatch: pytest.MonkeyPatch) -> None:
-    names = ("of_the_test_command", "of_another_command")
+    names = ("of_the_test_command", "of_another_command", "made_since")
     places = [tmp_path / name / "out" / "rlib" for name in names]
     for name, place in zip(names, places):
         (place / f"{name}.rlib").mkdir(parents=True)
+        os.utime(place / f"{name}.rlib", (1, 1) if name != "made_since" else (2**33, 2**33))
     (places[1] / "stamp").write_text("older", encoding="utf-8")
+    (tmp_path / "verdict").write_text("", encoding="utf-8")
+    monkeypatch.setattr(repository, "VERDICT", str(tmp_path / "verdict"))
     found = [SimpleNamespace(folder=str(tmp_path / name), rlib=str(place / f"{name}.rlib"), stamp=lambda: "now") for name, place in zip(names, places)]
     monkeypatch.setattr(processors, "CRATES", str(tmp_path))
     monkeypatch.setattr(processors, "rtlib", lambda: SimpleNamespace(crates_below=lambda _: found))
-    for passed, stamps in (False, [False, True]), (True, [True, True]):
+    for passed, stamps in (False, [False, True, False]), (True, [True, True, False]):
         monkeypatch.setattr(processors, "has_passed", lambda: passed)
         processors.take_libraries()
         assert [(place / "stamp").exists() for place in places] == stamps
-    assert [(place / "stamp").read_text(encoding="utf-8") for place in places] == ["now", "older"]
+    assert [(place / "stamp").read_text(encoding="utf-8") for place in places[:2]] == ["now", "older"]

@@ -130,6 +130,10 @@ def test_what_the_gate_made_counts_where_it_passed_on_these_sources(tested: Path
         (tested / "out" / "verdict").write_text(f"{repository.tested_sources()}\n{line}\n")
     if edited:
         (tested / edited).write_text("more")
+    os.utime(tested / "out" / "program", (1, 1))
     assert repository.verdict() == (None if edited not in ("", "docs") else line)
     assert repository.is_made_by_gate(str(tested / "out" / "program")) == made
     assert not repository.is_made_by_gate(str(tested / "out" / "none"))
+    # Another command made it since.
+    os.utime(tested / "out" / "program", (2**33, 2**33))
+    assert not repository.is_made_by_gate(str(tested / "out" / "program"))

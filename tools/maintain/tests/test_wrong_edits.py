@@ -3,7 +3,9 @@
 from __future__ import annotations
 
 import os
+from concurrent.futures import ThreadPoolExecutor
 from pathlib import Path
+from types import SimpleNamespace
 
 import pytest
 
@@ -141,6 +143,7 @@ def test_each_edit_that_is_asked_has_a_line(tmp_path: Path, monkeypatch: pytest.
         return {"one": TOLD, "other": "NOT REFUSED: the crate is still proved with this edit"}[trial.name]
 
     monkeypatch.setattr(batches.Checker, "alone", alone)
+    monkeypatch.setattr(batches.Checker, "checked", lambda checker, texts: (0, ["logic=proved"]))
     results = list(prover.tried(str(tmp_path / "copy"), TRIALS))
     assert [(trial.name, is_right) for trial, is_right, _ in results] == [("one", True), ("other", False)]
     assert sorted(asked) == ["one", "other"] and "NOT REFUSED" in results[1][2]
@@ -175,15 +178,19 @@ def test_what_another_command_has_not_made_to_its_end_is_not_copied(tmp_path: Pa
 
 
 def test_why_a_crate_is_not_proved_is_told(tmp_path: Path, monkeypatch: pytest.MonkeyPatch, capsys: pytest.CaptureFixture[str]) -> None:
-    fake(monkeypatch, tmp_path, "== low", "axioms", "rt: low proved", "== captures", ERROR, "rt: captures NOT PROVED", status=1)
-    prover.ran(str(tmp_path), "ci")
-    assert capsys.readouterr().err == f"rt: low proved\n== captures\n{ERROR}\nrt: captures NOT PROVED\n"
+    fake(monkeypatch, tmp_path)
     (tmp_path / "rt").write_text(f"#!/bin/sh\necho '{ERROR}'\nexit 1\n")
     assert [it[1] for it in prover.tried(str(tmp_path / "copy"), TRIALS[:1])] == [False]
     assert capsys.readouterr().err == f"captures is not proved:\n{ERROR}\n"
-    fake(monkeypatch, tmp_path, "rt: crates.txt names no crate", status=2)
-    with pytest.raises(Missing, match="ci ended with status 2:\nrt: crates.txt names no crate"):
-        prover.ran(str(tmp_path), "ci")
+
+
+def test_a_refusal_says_nothing_where_what_is_kept_is_refused_as_it_stands(monkeypatch: pytest.MonkeyPatch) -> None:
+    monkeypatch.setattr(batches, "batches", lambda crate, trials: [])
+    checker = SimpleNamespace(folder="", alone=lambda trial: TOLD, checked=lambda texts: (status, []))
+    monkeypatch.setattr(batches, "Checker", lambda folder, crate: checker)
+    with ThreadPoolExecutor(1) as pool:
+        for status, said in (0, {it: TOLD for it in TRIALS}), (1, {}):
+            assert prover.said_of(pool, "", "captures", TRIALS) == said
 
 
 def test_words_name_edits() -> None:
@@ -194,19 +201,22 @@ def test_words_name_edits() -> None:
         prover.named(every, ["captures/none"])
 
 
+PROVED, NOT_PROVED = (0, ["logic=proved"]), (1, [ERROR, "logic=not-proved"])
+
+
 @pytest.mark.parametrize(
     ("runs", "right", "said"),
     [
-        ([None, None, [ERROR]], True, f"refused, as it must be: {ERROR}"),
-        ([None, None, None], False, "the prover refuses nothing"),
-        ([None, [ERROR]], False, "the prover refuses lagmodel"),
-        ([None, None, ["./specs/B.antt:3:4: error: no"]], False, "specs/B.antt does not read any more"),
-        ([None, None, []], False, "something does not read any more"),
-        ([[ERROR]], False, "is not proved as it stands"),
+        ([PROVED, PROVED, NOT_PROVED], True, f"refused, as it must be: {ERROR}"),
+        ([PROVED, PROVED, PROVED], False, "NOT REFUSED: the crate is still proved with this edit"),
+        ([PROVED, NOT_PROVED], False, "the prover refuses lagmodel"),
+        ([PROVED, PROVED, (1, ["./specs/B.antt:3:4: error: no"])], False, "BAD EDIT: the prover cannot read the edited text, so no contract was tried: ./specs/B.antt:3:4: error: no"),
+        ([PROVED, PROVED, (-9, [ERROR])], False, f"BAD EDIT: it did not reach the prover: {ERROR}"),
+        ([NOT_PROVED], False, "is not proved as it stands"),
     ],
 )
 def test_an_edit_of_a_crate_below_is_refused_above_alone(
-    tmp_path: Path, monkeypatch: pytest.MonkeyPatch, runs: list[list[str] | None], right: bool, said: str
+    tmp_path: Path, monkeypatch: pytest.MonkeyPatch, runs: list[tuple[int, list[str]]], right: bool, said: str
 ) -> None:
     trial = next(it for it in edits.stored_in(edits.DEFINITIONS, "lagnetwork") if by_prover.names_below(it))
     top = Path(edits.copy_crates(str(tmp_path), ["lagnetwork"]))
@@ -216,6 +226,21 @@ def test_an_edit_of_a_crate_below_is_refused_above_alone(
     monkeypatch.setattr(by_prover, "checked", lambda crate: next(asked))
     assert (by_prover.try_below(str(top), trial), [*asked]) == ((right, said), [])
     assert edited.read_text() == before
+
+
+@pytest.mark.parametrize(("line", "is_proved"), [("rt: captures proved", True), ("rt: captures is kept: an earlier run", True), ("rt: captures NOT PROVED", False)])
+def test_a_counterexample_is_proved_now_or_was_before(line: str, is_proved: bool, tmp_path: Path, monkeypatch: pytest.MonkeyPatch) -> None:
+    (tmp_path / "proof").write_text("ensures: x ≡ y\n---\nproof\n")
+    trial = edits.Trial("captures", "x", ())
+    monkeypatch.setattr(by_prover, "ran", lambda folder, word: (0, [line]))
+    assert by_prover.try_counterexample(str(tmp_path / "top"), trial, str(tmp_path / "proof"))[0] == is_proved
+
+
+def test_a_counterexample_is_of_an_edit() -> None:
+    every = [it for its in edits.stored(edits.DEFINITIONS).values() for it in its]
+    by_prover.want_edits(every)
+    with pytest.raises(Missing, match="configure_can_send.counterexample is of no edit"):
+        by_prover.want_edits(it for it in every if it.name != "configure_can_send")
 
 
 def test_a_definition_that_does_not_read_is_none() -> None:

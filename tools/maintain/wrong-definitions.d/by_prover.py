@@ -6,6 +6,7 @@ in which that crate has to be proved still.
 
 from __future__ import annotations
 
+import glob
 import os
 import re
 import shutil
@@ -13,10 +14,10 @@ import subprocess
 from typing import Iterable, Iterator
 
 import prover
-from batches import REFUSED
+from batches import REFUSED, told_alone
 from edits import DEFINITIONS, Trial, apply, copy_crates, restore, write
 from prover import Result
-from repository import RT, read_text
+from repository import RT, Missing, read_text
 
 CRATES = ("lagmodel", "lagnetwork", "lagfleet", "lagbeside", "lagprogress")
 ERROR = re.compile(r"(?:\./)?([^\s:]+):\d+:\d+: error: ")
@@ -28,32 +29,46 @@ def unread(lines: list[str]) -> str | None:
     return next((file for file in files if not file.startswith("proofs/")), None)
 
 
-def checked(crate: str) -> list[str] | None:
-    """Proves a crate over what is kept in its folder; answers the lines of errors, None where it is proved."""
-    ran = subprocess.run([RT, "check"], cwd=crate, stdin=subprocess.DEVNULL, stdout=subprocess.PIPE, stderr=subprocess.STDOUT, text=True, errors="replace")
-    return [line for line in ran.stdout.splitlines() if ERROR.match(line)] if ran.returncode else None
+def ran(folder: str, word: str) -> tuple[int, list[str]]:
+    """The status and the lines of a command of `rt` in a folder."""
+    ended = subprocess.run([RT, word], cwd=folder, stdin=subprocess.DEVNULL, stdout=subprocess.PIPE, stderr=subprocess.STDOUT, text=True, errors="replace")
+    return ended.returncode, ended.stdout.splitlines()
+
+
+def checked(crate: str) -> tuple[int, list[str]]:
+    """The status of a check of a crate, over what is kept in its folder, and its lines up to the verdict."""
+    status, lines = ran(crate, "check")
+    ends = [at for at, line in enumerate(lines, 1) if line.startswith("logic=")]
+    return status, lines[: ends[-1]] if ends else lines
 
 
 def try_below(top: str, trial: Trial) -> tuple[bool, str]:
     """Makes an edit on a copy in which all is proved; the crates below have to be proved still, and the crate of the edit is to be refused."""
     crate = os.path.join(top, trial.crate)
-    if checked(crate) is not None:
+    if checked(crate)[0]:
         return False, "is not proved as it stands"
     was, fault = apply(crate, trial.pairs)
     if fault:
         return False, fault
     try:
         changed = dict.fromkeys(file.split("/")[1] for file, _, _ in trial.pairs if file.startswith(".."))
-        refused = [it for it in changed if checked(os.path.join(top, it)) is not None]
-        errors = None if refused else checked(crate)
+        refused = [it for it in changed if checked(os.path.join(top, it))[0]]
+        said = "" if refused else told_alone((), *checked(crate))
     finally:
         restore(was)
-    if errors is None:
-        return False, f"the prover refuses {', '.join(refused) or 'nothing'}"
-    file = unread(errors)
-    if file or not errors:
-        return False, f"{file or 'something'} does not read any more"
-    return True, f"{REFUSED}: {errors[0][:160]}"
+    return (False, f"the prover refuses {', '.join(refused)}") if refused else prover.judged(said)
+
+
+def counterexample(trial: Trial) -> str:
+    """The file of the proof that the law is false under an edit, where there is one."""
+    return os.path.join(DEFINITIONS, f"{trial.crate}.{trial.name}.counterexample")
+
+
+def want_edits(trials: Iterable[Trial]) -> None:
+    """Stops the tool where a counterexample is of no edit."""
+    left = set(glob.glob(os.path.join(DEFINITIONS, "*.counterexample"))) - {counterexample(it) for it in trials}
+    if left:
+        raise Missing(f"{min(left)} is of no edit")
 
 
 def try_counterexample(folder: str, trial: Trial, path: str) -> tuple[bool, str]:
@@ -73,7 +88,8 @@ def try_counterexample(folder: str, trial: Trial, path: str) -> tuple[bool, str]
     answer = f"use Rattle.{trial.crate}.proofs.Counterexample.{{refuted}}\nuse Rattle.{trial.crate}.proofs.refuted.Goals as goal\n\n"
     write(os.path.join(crate, "proofs", "refuted", "Answers.antt"), answer + "pub returns : goal.returns\nreturns c = refuted\n")
     subprocess.run([RT, "fmt"], cwd=crate, stdin=subprocess.DEVNULL, capture_output=True)
-    is_proved = any(re.match(rf"rt: {trial.crate} proved", line) for line in prover.ran(folder, "ci"))
+    # An earlier run of this tool may have proved the same.
+    is_proved = any(re.match(rf"rt: {trial.crate} (proved|is kept: )", line) for line in ran(folder, "ci")[1])
     return is_proved, "refuted: the law is false of it" if is_proved else "the counterexample is not proved"
 
 
@@ -84,7 +100,7 @@ def names_below(trial: Trial) -> bool:
 
 def of_own_crate(trials: list[Trial]) -> list[Trial]:
     """Those of these edits that are tried as wrong bodies are."""
-    return [it for it in trials if it.crate in CRATES and not it.fault() and not names_below(it)]
+    return [it for it in trials if not names_below(it)]
 
 
 def read_on(results: Iterable[Result]) -> Iterator[Result]:
@@ -100,6 +116,6 @@ def try_others(folder: str, trials: list[Trial]) -> Iterator[Result]:
     top = copy_crates(os.path.join(folder, "below"), [it.crate for it in below], with_kept=True) if below else ""
     yield from (prover.result(it, *try_below(top, it)) for it in below)
     for trial in trials:
-        path = os.path.join(DEFINITIONS, f"{trial.crate}.{trial.name}.counterexample")
+        path = counterexample(trial)
         if os.path.exists(path):
             yield prover.result(trial, *try_counterexample(os.path.join(folder, "counterexample"), trial, path))
