@@ -84,7 +84,7 @@ static void add_text_of_bundle(struct report *report, const struct control *cont
 }
 
 static void add_state(struct report *report, enum form form, uint64_t state) {
-    static const char *const names[8] = {"activity", "timeout", "aggregation", "synchronization", "collecting", "distributing", "defaulted", "expired"};
+    static const char *const names[8] = {"activity", "timeout", "aggregation", "synchronized", "collecting", "distributing", "defaulted", "expired"};
     const char *between = "";
     for (unsigned bit = 0; bit < 8; bit++) {
         if (!(state >> bit & 1)) continue;

@@ -17,8 +17,7 @@ enum { TRUE_VALUE = 1, FALSE_VALUE = 2 };
 /* The most octets of a PortList: an index above has no place in it. */
 #define MOST_LISTED 32768
 /* The bits of a state, in the order of LacpState. */
-static const char *const BITS[8] = {"activity", "timeout", "aggregation", "synchronization", "collecting", "distributing", "defaulted",
-    "expired"};
+static const char *const BITS[8] = {"activity", "timeout", "aggregation", "synchronized", "collecting", "distributing", "defaulted", "expired"};
 enum { ACTIVITY = 0x80, TIMEOUT = 0x40, AGGREGATION = 0x20 };
 /* The counts of a port, in the order of the columns. */
 static const char *const COUNT_NAMES[COUNTS] = {"lacpdus_received", "markers_received", "marker_responses_received", "unknown_received",

@@ -38,7 +38,13 @@ def copy_crates(folder: str, crates: Iterable[str], with_kept: bool = False) -> 
         return [it for it in names if it == "must-fail" or it == "out" and not with_kept or UNFINISHED.search(it)]
 
     for name in taken:
-        shutil.copytree(os.path.join(CRATES, name), os.path.join(folder, "crates", name), ignore=left)
+        source, copy = os.path.join(CRATES, name), os.path.join(folder, "crates", name)
+        try:
+            shutil.copytree(source, copy, ignore=left)
+        except shutil.Error:
+            # The other command replaced what was listed: once more.
+            shutil.rmtree(copy)
+            shutil.copytree(source, copy, ignore=left)
     write(os.path.join(folder, "crates.txt"), "".join(f"{rows[name]}\n" for name in taken))
     shutil.copy(os.path.join(TOP, "HANDLES"), folder)
     return os.path.join(folder, "crates")

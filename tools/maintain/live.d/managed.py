@@ -30,7 +30,7 @@ CONFIGURATION = "agentaddress udp:127.0.0.1:1161\nrocommunity public\nmaster age
 # The subagent looks for snmpd every 5 s; a status is no older than a second, and has to be of now behind OLDEST.
 COMES_BACK, GOES, OLDEST = 15, 4, 1.1
 # The bits of LacpState, from the most significant one of its octet on (RFC 2578, 7.1.4: bit 0 comes first).
-BITS = ("activity", "timeout", "aggregation", "synchronization", "collecting", "distributing", "defaulted", "expired")
+BITS = ("activity", "timeout", "aggregation", "synchronized", "collecting", "distributing", "defaulted", "expired")
 # The counters of 7.3.3.1, in the order of the columns.
 COUNTED = ("lacpdus_received", "markers_received", "marker_responses_received", "unknown_received", "illegal_received", "lacpdus_sent", "markers_sent", "marker_responses_sent")
 NOBODY = "00 00 00 00 00 00"

@@ -6,6 +6,7 @@ import os
 import subprocess
 from pathlib import Path
 from threading import Event
+from types import SimpleNamespace
 from typing import Callable
 
 import pytest
@@ -63,23 +64,24 @@ def test_no_two_checks_that_prove_in_one_folder_nor_two_that_measure_but_carry_r
 
 def test_what_two_would_make_into_one_folder_is_made_first(monkeypatch: pytest.MonkeyPatch) -> None:
     told: list[str] = []
-    monkeypatch.setattr(check, "take_libraries", lambda: told.append("libraries"))
     monkeypatch.setattr(check, "kernel_programs", lambda: told.append("programs"))
-    monkeypatch.setenv("LIBRARY", "liblagffi.a")
-    check.make_all()
-    assert told == ["programs", "libraries"]
+    monkeypatch.setattr(check, "subprocess", SimpleNamespace(run=lambda words, stdout: told.append("library") or SimpleNamespace(returncode=0), DEVNULL=0))
+    for library, made in (None, ["programs", "library"]), ("liblagffi.a", ["programs"]):
+        told.clear()
+        monkeypatch.setattr(os, "environ", {"LIBRARY": library} if library else {})
+        check.make_all()
+        assert told == made
 
 
 def test_the_library_is_made_where_the_programs_of_the_kernel_cannot_be(monkeypatch: pytest.MonkeyPatch, capsys: pytest.CaptureFixture[str]) -> None:
     def no_clang() -> None:
         raise Missing("no clang")
 
-    told: list[str] = []
-    monkeypatch.setattr(check, "take_libraries", lambda: told.append("libraries"))
     monkeypatch.setattr(check, "kernel_programs", no_clang)
-    monkeypatch.setenv("LIBRARY", "liblagffi.a")
+    monkeypatch.setattr(check, "subprocess", SimpleNamespace(run=lambda words, stdout: SimpleNamespace(returncode=0), DEVNULL=0))
+    monkeypatch.setattr(os, "environ", {})
     check.make_all()
-    assert told == ["libraries"] and "no clang" in capsys.readouterr().err
+    assert os.environ["LIBRARY"].endswith("liblag.a") and "no clang" in capsys.readouterr().err
 
 
 def test_no_check_begins_once_all_is_stopped(monkeypatch: pytest.MonkeyPatch) -> None:
@@ -115,11 +117,28 @@ def test_what_stands_on_the_test_command_waits_until_that_is_made(names: list[st
     monkeypatch.setattr(check, "CHECKS", {name: check.Check("tool", wants[name], "") for name in names})
     monkeypatch.setattr(check, "ends", ends)
     monkeypatch.setattr(check, "make_all", made)
+    monkeypatch.setattr(check, "take_libraries", lambda: None)
     monkeypatch.setattr(check, "has_passed_test", lambda: True)
     assert sorted(check.side_by_side([(name, []) for name in names])) == sorted(names)
     # Those beside test come in any order.
     before = ran.index("made") if "made" in ran else len(ran)
     assert (sorted(told[:before]), told[before:]) == (ran[:before], ran[before:])
+
+
+def test_edits_are_tried_while_the_library_is_made(monkeypatch: pytest.MonkeyPatch) -> None:
+    tried = Event()
+
+    def ends(name: str, more: list[str], nice: int) -> str:
+        if name == "wrong-bodies":
+            tried.set()
+        return name
+
+    monkeypatch.setattr(check, "CHECKS", {it: check.Check("tool", "toolchain", "") for it in ("wrong-bodies", "lag-c")})
+    monkeypatch.setattr(check, "ends", ends)
+    monkeypatch.setattr(check, "take_libraries", lambda: None)
+    monkeypatch.setattr(check, "make_all", lambda: tried.wait(10) or pytest.fail("the edits wait"))
+    monkeypatch.setattr(check, "has_passed_test", lambda: True)
+    assert check.side_by_side([("lag-c", []), ("wrong-bodies", [])]) == ["wrong-bodies", "lag-c"]
 
 
 def test_where_nothing_is_made_the_others_still_end(monkeypatch: pytest.MonkeyPatch) -> None:
@@ -129,6 +148,7 @@ def test_where_nothing_is_made_the_others_still_end(monkeypatch: pytest.MonkeyPa
     monkeypatch.setattr(check, "CHECKS", {"live": check.Check("tool", "library, root", "")})
     monkeypatch.setattr(check, "ends", lambda name, more, nice: name)
     monkeypatch.setattr(check, "make_all", made)
+    monkeypatch.setattr(check, "take_libraries", lambda: None)
     monkeypatch.setattr(check, "has_passed_test", lambda: False)
     # It tells of the test command, too, which it ran as nothing that is here had passed it.
     assert check.side_by_side([("live", [])]) == ["test", "live"]
