@@ -2,6 +2,7 @@
 
 A tool gives its parts by their names, and what makes ready what they share. Words that it does not know are names of parts, and options of pytest, as -k, -x,
 --lf, --durations and --junitxml. A part fails by a check that fails, and by an exception; `Skipped` skips it, and `Missing` ends the tool with status 2.
+One that fails while its processes waited too long for a processor is inconclusive: a line says so, nothing is counted, and the part runs once more.
 """
 
 from __future__ import annotations
@@ -17,6 +18,7 @@ from pathlib import Path
 from typing import Any, Callable, Iterable, Iterator, Mapping, NamedTuple, NoReturn, Sequence, TypeVar
 
 from checking import Failed, Skipped, check, counted, failures
+from lateness import LATE, watched
 from repository import TOP, Missing, hear_signals, read_text, run, tally, with_pytest
 
 
@@ -67,6 +69,20 @@ def reads(told: str | None, parts: Iterable[str]) -> argparse.ArgumentParser:
 
 
 def attempt(name: str, part: Callable[[T], object], shared: T) -> Told:
+    """Runs a part, and once more where it failed while its processes waited too long for a processor."""
+    with watched() as late:
+        told = attempt_once(name, part, shared)
+        waited = late()
+    if not told.failed or waited < LATE:
+        return told
+    counted["passed"] -= told.passed
+    counted["failed"] -= len(told.failed)
+    del failures[-len(told.failed) :]
+    print(f"inconclusive: {name}: {told.failed[0].splitlines()[0]}: not so while its processes waited {waited:.1f} s for a processor; once more", flush=True)
+    return attempt_once(name, part, shared)
+
+
+def attempt_once(name: str, part: Callable[[T], object], shared: T) -> Told:
     """Runs a part. What no check foresees is a failure of this part alone."""
     passed, failed, skipped, answer = counted["passed"], len(failures), "", None
     print(f"{name}:", flush=True)

@@ -17,7 +17,7 @@ from typing import Callable, Iterator, Sequence, TypedDict
 
 from checking import Failed, Skipped, check, command, within
 from daemon import OTHER, SYSTEM, Daemon
-from lateness import since, waited
+from lateness import LATE, since, waited
 from linking import DAEMON, STRICT, build, build_daemon, sources_of
 from repository import CACHE, MAINTAIN, WARNINGS
 from spaces import OURS, THEIRS, inside, ip, within_space
@@ -42,9 +42,6 @@ RIGHTS = ("setpriv", "--bounding-set", "-all,+net_raw,+net_admin,+bpf", "--inh-c
 ANSWERS = 5
 # What a run of flows takes beyond the time in which frames are sent.
 AFTER = 2.0
-# For how many seconds daemons and cables have to wait for a processor, all together, until frames that this alone explains are no verdict: so long
-# a daemon holds a frame at most, while it waits for the answer of a marker, and the queue of a device is full before that.
-LATE = 1.0
 
 
 @dataclass

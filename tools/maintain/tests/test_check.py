@@ -141,6 +141,19 @@ def test_edits_are_tried_while_the_library_is_made(monkeypatch: pytest.MonkeyPat
     assert check.side_by_side([("lag-c", []), ("wrong-bodies", [])]) == ["wrong-bodies", "lag-c"]
 
 
+def test_the_kernel_goes_by_nice_alone_meanwhile(tmp_path: Path, monkeypatch: pytest.MonkeyPatch) -> None:
+    setting = tmp_path / "sched_autogroup_enabled"
+    monkeypatch.setattr(check, "AUTOGROUP", str(setting))
+    with check.by_nice_alone():
+        assert not setting.exists()
+    for was in "1\n", "0\n":
+        setting.write_text(was)
+        with pytest.raises(KeyboardInterrupt), check.by_nice_alone():
+            assert setting.read_text() == "0"
+            raise KeyboardInterrupt
+        assert setting.read_text() == was
+
+
 def test_where_nothing_is_made_the_others_still_end(monkeypatch: pytest.MonkeyPatch) -> None:
     def made() -> None:
         raise Missing("no library")

@@ -2,6 +2,7 @@
 
 from __future__ import annotations
 
+import contextlib
 import signal
 import subprocess
 import sys
@@ -97,3 +98,40 @@ def test_a_trial_that_does_not_run_to_its_end_fails(monkeypatch: pytest.MonkeyPa
 
     told = system_tests.attempt("teamd", trial, None)
     assert len(told.failed) == 1 and told.answer is None and system_tests.counted == {"passed": 0, "failed": 1}
+
+
+@pytest.mark.parametrize(
+    ("waited", "holds", "runs", "ends"),
+    [(0.9, [0, 1], 1, (1, 1)), (1.0, [0, 1], 2, (2, 0)), (9.0, [0, 0], 2, (1, 1)), (9.0, [1, 0], 1, (2, 0))],
+)
+def test_a_part_that_fails_while_it_waits_for_a_processor_runs_once_more(
+    waited: float, holds: list[int], runs: int, ends: tuple[int, int], monkeypatch: pytest.MonkeyPatch, capsys: pytest.CaptureFixture[str]
+) -> None:
+    ran: list[int] = []
+
+    def part(shared: list[int]) -> None:
+        ran.append(0)
+        system_tests.check(True, "it runs")
+        system_tests.check(shared[len(ran) - 1], "it holds", "more")
+
+    for name in ("counted", "failures"):
+        monkeypatch.setattr(system_tests, name, {"passed": 0, "failed": 0} if name == "counted" else [])
+        monkeypatch.setattr(sys.modules["checking"], name, getattr(system_tests, name))
+    monkeypatch.setattr(system_tests, "watched", lambda: contextlib.nullcontext(lambda: waited))
+    told = system_tests.attempt("part", part, holds)
+    line = f"inconclusive: part: it holds: not so while its processes waited {waited} s for a processor; once more" in capsys.readouterr().out
+    assert (len(ran), line, len(told.failed), len(system_tests.failures)) == (runs, runs > 1, ends[1], ends[1])
+    assert (system_tests.counted["passed"], system_tests.counted["failed"], told.passed) == (2 - ends[1], ends[1], 2 - ends[1])
+
+
+def test_how_long_processes_wait_is_known_of_those_that_ended(monkeypatch: pytest.MonkeyPatch) -> None:
+    looks = iter([{1: 5.0}, {1: 5.5, 2: 0.25}, {3: 0.125}])
+    lateness = sys.modules["lateness"]
+    monkeypatch.setattr(lateness, "waited", lambda: next(looks, {}))
+    monkeypatch.setattr(lateness, "LOOKS", 0.01)
+    with lateness.watched() as late:
+        for _ in range(300):
+            if late() == 0.875:
+                break
+            time.sleep(0.01)
+    assert late() == 0.875

@@ -2,8 +2,17 @@
 
 from __future__ import annotations
 
+import contextlib
 import glob
 import os
+from threading import Event, Thread
+from typing import Callable, Iterator
+
+# For how many seconds the processes have to wait, all together, until what this alone explains is no verdict: so long a daemon holds a frame at most, while it
+# waits for the answer of a marker, and the queue of a device is full before that.
+LATE = 1.0
+# How often is looked, in seconds, as a process that ended tells no more.
+LOOKS = 0.5
 
 
 def parents() -> dict[int, int]:
@@ -44,3 +53,21 @@ def waited() -> dict[int, float]:
 def since(before: dict[int, float]) -> float:
     """How many seconds the processes that run now waited since then, all together: what is late because of the machine is no later than that."""
     return sum(now - before.get(process, 0.0) for process, now in waited().items())
+
+
+@contextlib.contextmanager
+def watched() -> Iterator[Callable[[], float]]:
+    """Gives how many seconds the processes of this tool waited since then, all together, also those that ended meanwhile."""
+    before, seen, ended = waited(), dict[int, float](), Event()
+
+    def look() -> None:
+        while not ended.wait(LOOKS):
+            seen.update(waited())
+
+    looks = Thread(target=look, daemon=True)
+    looks.start()
+    try:
+        yield lambda: sum(now - before.get(process, 0.0) for process, now in {**seen}.items())
+    finally:
+        ended.set()
+        looks.join()
