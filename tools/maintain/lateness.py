@@ -1,4 +1,5 @@
-"""How long the processes of a run waited for a processor, as the kernel counts it: on a loaded machine frames are late for that reason alone."""
+"""How long the processes of a run waited for a processor, as the kernel counts it, and how long another machine had the processors of this one: frames are
+late for that reason alone."""
 
 from __future__ import annotations
 
@@ -36,9 +37,15 @@ def below(process: int) -> list[int]:
     return found[1:]
 
 
+def stolen() -> float:
+    """For how many seconds others had the processors of this virtual machine, all together, since it began."""
+    with open("/proc/stat", encoding="utf-8") as it:
+        return int(it.readline().split()[8]) / os.sysconf("SC_CLK_TCK")
+
+
 def waited() -> dict[int, float]:
-    """How many seconds each process of this tool has waited for a processor, with all its threads, since it began."""
-    found: dict[int, float] = {}
+    """How many seconds each process of this tool has waited for a processor, with all its threads, since it began; process 0 has what was stolen."""
+    found = {0: stolen()}
     for process in below(os.getpid()):
         found[process] = 0.0
         for path in glob.glob(f"/proc/{process}/task/*/schedstat"):

@@ -12,9 +12,10 @@ import time
 from functools import partial
 from typing import Callable, Iterator
 
-from bonds import (COMES_BACK, COMES_UP, DEVICE, FLOWS, LATE, MIDDLE, End, Outcome, Programs, ask_gro, cables, check_end, check_none_lost, check_order, every,
+from bonds import (COMES_BACK, COMES_UP, DEVICE, FLOWS, MIDDLE, End, Outcome, Programs, ask_gro, cables, check_end, check_none_lost, check_order, every,
                    late, lay_direct, move_all, pair, run_flows, several)
 from checking import Skipped, check, within
+from lateness import LATE
 from restarting import RESTARTS, hand_over, managed
 from spaces import OURS, THEIRS, inside, ip, packet_socket
 

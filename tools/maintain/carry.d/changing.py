@@ -9,9 +9,10 @@ import time
 from threading import Event, Thread
 from typing import Callable
 
-from bonds import COMES_UP, DEVICE, FLIGHT, LATE, RATE, End, Outcome, Programs, cables, check_order, kernel_count, late, lay_direct, run_flows, wait_for_links
+from bonds import COMES_UP, DEVICE, FLIGHT, RATE, End, Outcome, Programs, cables, check_order, kernel_count, late, lay_direct, run_flows, wait_for_links
 from checking import Failed, check, within
 from daemon import SYSTEM
+from lateness import LATE
 from repository import read_text, write_text
 from restarting import WAYS, Kept, Manager, seen
 from spaces import OURS, THEIRS, inside, ip

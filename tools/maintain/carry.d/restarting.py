@@ -16,10 +16,11 @@ from functools import partial
 from threading import Event, Thread, Timer
 from typing import Callable, Iterator, Sequence
 
-from bonds import (COMES_BACK, COMES_UP, DEVICE, DIRECT, FLOWS, LATE, MIDDLE, RATE, End, Outcome, Programs, ask_gro, cables, check_none_lost,
+from bonds import (COMES_BACK, COMES_UP, DEVICE, DIRECT, FLOWS, MIDDLE, RATE, End, Outcome, Programs, ask_gro, cables, check_none_lost,
                    check_order, late, lay_direct, move_all, run_flows, wait_for_links)
 from checking import Failed, check, found, within
 from daemon import ENDS, SYSTEM, Daemon
+from lateness import LATE
 from linking import want_systemd
 from repository import read_text
 from spaces import OURS, THEIRS, inside, ip

@@ -64,11 +64,16 @@ def test_no_two_checks_that_prove_in_one_folder_nor_two_that_measure_but_carry_r
 
 def test_what_two_would_make_into_one_folder_is_made_first(monkeypatch: pytest.MonkeyPatch) -> None:
     told: list[str] = []
+
+    def library(words: list[str], stdout: int) -> SimpleNamespace:
+        told.append("library")
+        return SimpleNamespace(returncode=0)
+
     monkeypatch.setattr(check, "kernel_programs", lambda: told.append("programs"))
-    monkeypatch.setattr(check, "subprocess", SimpleNamespace(run=lambda words, stdout: told.append("library") or SimpleNamespace(returncode=0), DEVNULL=0))
-    for library, made in (None, ["programs", "library"]), ("liblagffi.a", ["programs"]):
+    monkeypatch.setattr(check, "subprocess", SimpleNamespace(run=library, DEVNULL=0))
+    for given, made in ("", ["programs", "library"]), ("liblagffi.a", ["programs"]):
         told.clear()
-        monkeypatch.setattr(os, "environ", {"LIBRARY": library} if library else {})
+        monkeypatch.setattr(os, "environ", {"LIBRARY": given} if given else {})
         check.make_all()
         assert told == made
 

@@ -186,10 +186,11 @@ def test_why_a_crate_is_not_proved_is_told(tmp_path: Path, monkeypatch: pytest.M
 
 def test_a_refusal_says_nothing_where_what_is_kept_is_refused_as_it_stands(monkeypatch: pytest.MonkeyPatch) -> None:
     monkeypatch.setattr(batches, "batches", lambda crate, trials: [])
-    checker = SimpleNamespace(folder="", alone=lambda trial: TOLD, checked=lambda texts: (status, []))
-    monkeypatch.setattr(batches, "Checker", lambda folder, crate: checker)
+    says: dict[int, dict[edits.Trial, str]] = {0: {it: TOLD for it in TRIALS}, 1: {}}
     with ThreadPoolExecutor(1) as pool:
-        for status, said in (0, {it: TOLD for it in TRIALS}), (1, {}):
+        for status, said in says.items():
+            checker = SimpleNamespace(folder="", alone=lambda trial: TOLD, checked=lambda texts, status=status: (status, []))
+            monkeypatch.setattr(batches, "Checker", lambda folder, crate, checker=checker: checker)
             assert prover.said_of(pool, "", "captures", TRIALS) == said
 
 
