@@ -20,6 +20,8 @@ BODIES = os.path.join(MAINTAIN, "wrong-bodies.d")
 DEFINITIONS = os.path.join(MAINTAIN, "wrong-definitions.d")
 # The names of what a command of `rt`, or one of these tools, has not made to its end in a folder `out`: it gets another name then, or goes.
 UNFINISHED = re.compile(r"\.tmp[-.]|^rt-\w+-\d|^incremental\.\d")
+# How often a crate is copied at most, while another command works in its folder.
+TRIES = 5
 # A replacement: the file, the old text and the new one.
 Pair = tuple[str, str, str]
 
@@ -39,12 +41,15 @@ def copy_crates(folder: str, crates: Iterable[str], with_kept: bool = False) -> 
 
     for name in taken:
         source, copy = os.path.join(CRATES, name), os.path.join(folder, "crates", name)
-        try:
-            shutil.copytree(source, copy, ignore=left)
-        except shutil.Error:
-            # The other command replaced what was listed: once more.
-            shutil.rmtree(copy)
-            shutil.copytree(source, copy, ignore=left)
+        for tries in reversed(range(TRIES)):
+            try:
+                shutil.copytree(source, copy, ignore=left)
+                break
+            except shutil.Error:
+                # The other command replaced what was listed.
+                if not tries:
+                    raise
+                shutil.rmtree(copy)
     write(os.path.join(folder, "crates.txt"), "".join(f"{rows[name]}\n" for name in taken))
     shutil.copy(os.path.join(TOP, "HANDLES"), folder)
     return os.path.join(folder, "crates")
@@ -101,7 +106,7 @@ def read_trial(crate: str, name: str, rows: Iterable[str], named: Named | None =
             old = Everywhere(text) if word == "everywhere" else text
             if not file:
                 raise Missing(f"{crate}/{name}: no line `file:` says in which file this stands: {line}")
-        elif file and (word == "new" or line == "new:"):
+        elif old and (word == "new" or line == "new:"):
             pairs.append((file, old, text))
             old = ""
         elif line:

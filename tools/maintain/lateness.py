@@ -12,7 +12,9 @@ from typing import Callable, Iterator
 # For how many seconds the processes have to wait, all together, until what this alone explains is no verdict: so long a daemon holds a frame at most, while it
 # waits for the answer of a marker, and the queue of a device is full before that.
 LATE = 1.0
-# How often is looked, in seconds, as a process that ended tells no more.
+# And what part of the time, of one that lasts longer.
+LATE_SHARE = 0.1
+# How often it looks, in seconds, as a process that ended tells no more.
 LOOKS = 0.5
 
 
@@ -44,7 +46,7 @@ def stolen() -> float:
 
 
 def waited() -> dict[int, float]:
-    """How many seconds each process of this tool has waited for a processor, with all its threads, since it began; process 0 has what was stolen."""
+    """How many seconds each process below this tool has waited for a processor, with all its threads, since it began; process 0 has what was stolen."""
     found = {0: stolen()}
     for process in below(os.getpid()):
         found[process] = 0.0
@@ -64,7 +66,7 @@ def since(before: dict[int, float]) -> float:
 
 @contextlib.contextmanager
 def watched() -> Iterator[Callable[[], float]]:
-    """Gives how many seconds the processes of this tool waited since then, all together, also those that ended meanwhile."""
+    """Gives how many seconds the processes below this tool waited since then, all together, also those that ended meanwhile, as of the last look."""
     before, seen, ended = waited(), dict[int, float](), Event()
 
     def look() -> None:
@@ -74,7 +76,7 @@ def watched() -> Iterator[Callable[[], float]]:
     looks = Thread(target=look, daemon=True)
     looks.start()
     try:
-        yield lambda: sum(now - before.get(process, 0.0) for process, now in {**seen}.items())
+        yield lambda: sum(max(0.0, now - before.get(process, 0.0)) for process, now in {**seen, **waited()}.items())
     finally:
         ended.set()
         looks.join()

@@ -2,7 +2,8 @@
 
 A tool gives its parts by their names, and what makes ready what they share. Words that it does not know are names of parts, and options of pytest, as -k, -x,
 --lf, --durations and --junitxml. A part fails by a check that fails, and by an exception; `Skipped` skips it, and `Missing` ends the tool with status 2.
-One that fails while its processes waited too long for a processor is inconclusive: a line says so, nothing is counted, and the part runs once more.
+One that fails while its processes waited too long for a processor, or other machines had one, is inconclusive: a line says so, nothing is counted, and the
+part runs once more.
 """
 
 from __future__ import annotations
@@ -12,13 +13,14 @@ import multiprocessing
 import os
 import signal
 import sys
+import time
 import traceback
 from concurrent.futures import Future, ProcessPoolExecutor
 from pathlib import Path
 from typing import Any, Callable, Iterable, Iterator, Mapping, NamedTuple, NoReturn, Sequence, TypeVar
 
 from checking import Failed, Skipped, check, counted, failures
-from lateness import LATE, watched
+from lateness import LATE, LATE_SHARE, watched
 from repository import TOP, Missing, hear_signals, read_text, run, tally, with_pytest
 
 
@@ -69,16 +71,17 @@ def reads(told: str | None, parts: Iterable[str]) -> argparse.ArgumentParser:
 
 
 def attempt(name: str, part: Callable[[T], object], shared: T) -> Told:
-    """Runs a part, and once more where it failed while its processes waited too long for a processor."""
-    with watched() as late:
+    """Runs a part, and once more where it failed while its processes waited too long for a processor, or other machines had one."""
+    began = time.monotonic()
+    with watched() as waited:
         told = attempt_once(name, part, shared)
-        waited = late()
-    if not told.failed or waited < LATE:
+        late = waited()
+    if not told.failed or late < max(LATE, (time.monotonic() - began) * LATE_SHARE):
         return told
     counted["passed"] -= told.passed
     counted["failed"] -= len(told.failed)
     del failures[-len(told.failed) :]
-    print(f"inconclusive: {name}: {told.failed[0].splitlines()[0]}: not so while its processes waited {waited:.1f} s for a processor; once more", flush=True)
+    print(f"inconclusive: {name}: {told.failed[0].splitlines()[0]}: this failed while its processes waited {late:.1f} s for a processor; once more", flush=True)
     return attempt_once(name, part, shared)
 
 

@@ -154,9 +154,9 @@ def test_the_kernel_goes_by_nice_alone_meanwhile(tmp_path: Path, monkeypatch: py
     for was in "1\n", "0\n":
         setting.write_text(was)
         with pytest.raises(KeyboardInterrupt), check.by_nice_alone():
-            assert setting.read_text() == "0"
+            assert setting.read_text().strip() == "0"
             raise KeyboardInterrupt
-        assert setting.read_text() == was
+        assert setting.read_text().strip() == was.strip()
 
 
 def test_where_nothing_is_made_the_others_still_end(monkeypatch: pytest.MonkeyPatch) -> None:
@@ -178,7 +178,7 @@ def test_the_end_has_the_longest_first_and_tells_what_did_not_run() -> None:
     assert check.summary(ended) == ["  10.0 min   20.0 of a processor  FAILED   live", "   0.1 min    0.1 of a processor  passed   pages",
                                     "   0.0 min    0.0 of a processor  not run  carry", "1 passed, 1 failed, 1 not run"]
     assert check.summary(ended[:1]) == ["1 passed, 0 failed"]
-    left_out = ended[0]._replace(skipped=("skipped: types: there is no mypy", "SKIPPED [1] a.py:3: not root"))
+    left_out = ended[0]._replace(left_out=("skipped: types: there is no mypy", "SKIPPED [1] a.py:3: not root"))
     assert check.summary([left_out]) == ["pages: skipped: types: there is no mypy", "pages: SKIPPED [1] a.py:3: not root", "1 passed, 0 failed"]
 
 

@@ -119,19 +119,22 @@ def test_a_part_that_fails_while_it_waits_for_a_processor_runs_once_more(
         monkeypatch.setattr(sys.modules["checking"], name, getattr(system_tests, name))
     monkeypatch.setattr(system_tests, "watched", lambda: contextlib.nullcontext(lambda: waited))
     told = system_tests.attempt("part", part, holds)
-    line = f"inconclusive: part: it holds: not so while its processes waited {waited} s for a processor; once more" in capsys.readouterr().out
+    line = f"inconclusive: part: it holds: this failed while its processes waited {waited} s for a processor; once more" in capsys.readouterr().out
     assert (len(ran), line, len(told.failed), len(system_tests.failures)) == (runs, runs > 1, ends[1], ends[1])
     assert (system_tests.counted["passed"], system_tests.counted["failed"], told.passed) == (2 - ends[1], ends[1], 2 - ends[1])
 
 
 def test_how_long_processes_wait_is_known_of_those_that_ended(monkeypatch: pytest.MonkeyPatch) -> None:
-    looks = iter([{1: 5.0}, {1: 5.5, 2: 0.25}, {3: 0.125}])
+    now = {1: 5.0}
     lateness = sys.modules["lateness"]
-    monkeypatch.setattr(lateness, "waited", lambda: next(looks, {}))
+    monkeypatch.setattr(lateness, "waited", lambda: dict(now))
     monkeypatch.setattr(lateness, "LOOKS", 0.01)
     with lateness.watched() as late:
-        for _ in range(300):
-            if late() == 0.875:
-                break
-            time.sleep(0.01)
-    assert late() == 0.875
+        now.update({1: 5.5, 2: 0.25})
+        time.sleep(0.5)
+        del now[2]
+        now[3] = 0.125
+        assert late() == 0.875
+        # Another process has its number.
+        now[1] = 4.0
+        assert late() == 0.375
