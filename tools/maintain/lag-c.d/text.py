@@ -5,12 +5,13 @@ from __future__ import annotations
 import os
 
 import functions
+from repository import TOP
 from shim import Shim
 from sources import Export, Structs
 from wasm import Module
 
 ROW = 48  # octets of a line
-HEAD = os.path.join(os.path.dirname(os.path.abspath(__file__)), "head.c")
+HEAD = os.path.join(TOP, "c", "head.c")
 ABOUT = """/* liblag {release} for any compiler of C11: cc -O2 -c lag.c
 
    The functions of lag.h, as one file that wants nothing but lag.h and a C library; by -ffreestanding no C library, but malloc, realloc, free, memcpy,

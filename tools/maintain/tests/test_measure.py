@@ -8,15 +8,6 @@ import loading
 
 measure = loading.program("measure")
 
-FILES = {
-    "crates.txt": "high: low\nlow:\nlagffi staticlib: high\n",
-    "crates/lagffi/src/a.rt": 'pub extern "C" fn lagffi_go() {\n    go(1)\n}\n',
-    "crates/high/src/a.rt": "pub fn go(n: u8) {\n    self.inner.go(n); // hidden(n)\n}\n    fn go(n: u8) {\n    low_step(n)\n}\n",
-    "crates/low/src/a.rt": "pub fn low_step(n: u8) {\n    end(n)\n}\npub(crate) fn hidden(n: u8) {\n}\nfn end(n: u8) {\n}\n",
-    "lagd/a.c": "static int serve(int n,\n    int m) {\n    return niw_go(n) + m;\n}\n",
-}
-
-
 @pytest.mark.parametrize(
     ("path", "kind"),
     [
@@ -30,6 +21,8 @@ FILES = {
         ("tools/dist.d/abi.py", "tools of users"),
         ("tools/dist.d/debian/control", None),
         ("crates/lagffi/include/lag.h", "header"),
+        ("c/head.c", "header"),
+        ("c/lag.c", None),
         ("crates/example_a/src/lib.rt", "code of examples"),
         ("hosts/teamd/lacp_team.h", "hosts"),
         ("hosts/teamd/tests/kept.c", "tests of hosts"),
@@ -45,30 +38,7 @@ def test_a_file_counts_by_its_place(path: str, kind: str | None) -> None:
     assert measure.kind_of(path) == kind
 
 
-def test_the_c_library_is_its_crate_and_all_below_it() -> None:
-    assert measure.crates_of_library({"lagffi": ["high"], "high": ["low", "std_alloc"], "low": [], "other": ["low"]}) == {"lagffi", "high", "low"}
-
-
-def test_empty_lines_are_left_out() -> None:
-    assert measure.filled(["a\n\n b\n", "\t\nc"]) == 3
-
-
 def test_the_product_stands_beside_what_checks_it() -> None:
-    told = measure.figures({**FILES, "tools/check": "1\n2\n3\n", "python/tests/test_a.py": "4\n", "docs/A.md": "5\n"})
-    assert (told["lines: product"], told["lines: tests and tools"], told["tests and tools, a line of the product"]) == ("20", "4", "0.20")
-
-
-def test_code_alone_has_no_clauses_and_no_comments() -> None:
-    text = """
-ghost use Rattle.std.specs.Prelude.{A,
-    B};
-/// What it answers.
-pub fn soonest(&self) -> Option<u8>
-    requires chained { AreChained self.now }
-    ensures { result
-        is soonest }
-{
-    self.first
-}
-"""
-    assert measure.code_alone(text).splitlines() == ["pub fn soonest(&self) -> Option<u8>", "{", "    self.first", "}"]
+    product = {"crates/low/src/a.rt": "1\n2\n3\n", "lagd/a.c": "4\n5\n"}
+    told = measure.figures({**product, "tools/check": "1\n2\n3\n", "python/tests/test_a.py": "4\n", "docs/A.md": "5\n"})
+    assert (told["lines: product"], told["lines: tests and tools"], told["tests and tools, a line of the product"]) == ("5", "4", "0.800")
