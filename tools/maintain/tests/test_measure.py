@@ -8,6 +8,7 @@ import loading
 
 measure = loading.program("measure")
 
+
 @pytest.mark.parametrize(
     ("path", "kind"),
     [
@@ -21,9 +22,9 @@ measure = loading.program("measure")
         ("tools/dist.d/abi.py", "tools of users"),
         ("tools/dist.d/debian/control", None),
         ("crates/lagffi/include/lag.h", "header"),
-        ("c/head.c", "header"),
+        ("c/head.c", "head of c/lag.c"),
         ("c/lag.c", None),
-        ("crates/example_a/src/lib.rt", "code of examples"),
+        ("crates/example_a/src/lib.rt", None),
         ("hosts/teamd/lacp_team.h", "hosts"),
         ("hosts/teamd/tests/kept.c", "tests of hosts"),
         ("hosts/README.md", None),
@@ -39,6 +40,7 @@ def test_a_file_counts_by_its_place(path: str, kind: str | None) -> None:
 
 
 def test_the_product_stands_beside_what_checks_it() -> None:
-    product = {"crates/low/src/a.rt": "1\n2\n3\n", "lagd/a.c": "4\n5\n"}
+    product = {"crates/low/src/a.rt": "1\n2\n3\n", "crates/lagtypes/src/a.rt": "1\n", "lagd/a.c": "4\n5\n"}
     told = measure.figures({**product, "tools/check": "1\n2\n3\n", "python/tests/test_a.py": "4\n", "docs/A.md": "5\n"})
-    assert (told["lines: product"], told["lines: tests and tools"], told["tests and tools, a line of the product"]) == ("5", "4", "0.800")
+    assert (told["lines: product"], told["lines: tests and tools"], told["tests and tools, a line of the product"]) == ("6", "4", "0.667")
+    assert (told["lines: code"], told["lines: code, C library"]) == ("4", "1")
