@@ -19,7 +19,7 @@ HEADER = os.path.join(CRATES, "lagffi", "include", "lag.h")
 ARCHIVE = os.path.join(CRATES, "lagffi", "out", "liblagffi.a")
 # The C of another processor, in the place of that of the toolchain.
 RUNTIME = os.path.join(TOOLS, "dist.d", "runtime")
-# The name by which programs load the library: its number rises where it no longer fits what was built for it (docs/ABI.md).
+# The name by which programs load the library: its number rises where it no longer fits what was built for it (docs/USING.md).
 SONAME = "liblag.so.0"
 # The version that each function has in the library that is loaded, with the release that had it first.
 SYMBOLS = os.path.join(TOOLS, "dist.d", "debian", "liblag0.symbols")
@@ -102,7 +102,7 @@ def one_object(folder: str, parts: list[str], processor: Processor = AMD64) -> s
 def portable(folder: str, *words: str, processor: Processor = AMD64) -> str:
     """The same object, lag.o, of c/lag.c: it wants a C compiler alone."""
     made = os.path.join(folder, "lag.o")
-    # As the native one it imports what docs/ABI.md lists, and no more.
+    # As the native one it imports what docs/USING.md lists, and no more.
     printed(*compiler(processor), "-O2", "-fPIC", "-fno-stack-protector", "-U_FORTIFY_SOURCE", *words, f"-I{os.path.dirname(HEADER)}", "-c", "-o", made, PORTABLE)
     return made
 

@@ -624,7 +624,7 @@ def test_pages_have_the_time_of_a_run_and_which_tests_are_long() -> None:
     said = f" tests on 2 links, some {round(sum(it.takes for it in short) / 60)} min"  # how many: of the run that the page shows
     assert said in (page_of("CONFORM.md") or said)
     wanted = f"that take at most {LONG} s each"
-    assert wanted in (" ".join(page_of("PEERS.md").split()) or wanted)
+    assert wanted in (" ".join(page_of("MEASURED.md").split()) or wanted)
 
 
 def test_the_version_says_which_library_runs(capsys: pytest.CaptureFixture[str]) -> None:

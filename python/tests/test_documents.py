@@ -9,7 +9,7 @@ import re
 
 import niwhopera
 
-PAGE = os.path.join(os.path.dirname(os.path.abspath(__file__)), "..", "..", "docs", "PYTHON.md")
+PAGE = os.path.join(os.path.dirname(os.path.abspath(__file__)), "..", "..", "docs", "USING.md")
 
 
 def printed(program: str) -> str:

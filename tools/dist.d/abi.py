@@ -2,7 +2,7 @@
 
 The library has no types in it. So a stand-in is built from lag.h: each function that the header declares, with an empty body. abidw of
 libabigail writes its interface down, and abidiff compares. What tools/maintain/live compares with the sources is the header, so this speaks of
-the library. docs/ABI.md says what may change.
+the library. docs/USING.md says what may change.
 """
 
 from __future__ import annotations

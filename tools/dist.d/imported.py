@@ -1,4 +1,4 @@
-"""What a library imports, and the table of docs/ABI.md that says it."""
+"""What a library imports, and the table of docs/USING.md that says it."""
 
 from __future__ import annotations
 
@@ -10,7 +10,7 @@ from library import printed
 from processors import PROCESSORS
 from repository import TOP, Missing, read_text, write_text
 
-PAGE = os.path.join(TOP, "docs", "ABI.md")
+PAGE = os.path.join(TOP, "docs", "USING.md")
 HEAD = f"|imported|{'|'.join(PROCESSORS)}|\n|---|{'---|' * len(PROCESSORS)}\n"
 # The one octet that is no constant: to where rattle_alloc points where memory is refused. Nothing writes it.
 NEVER_WRITTEN = "nothing"
@@ -32,7 +32,7 @@ def newest_glibc(versions: str) -> str:
 
 
 def page() -> str:
-    """The text of docs/ABI.md."""
+    """The text of docs/USING.md."""
     return read_text(PAGE)
 
 
@@ -40,7 +40,7 @@ def rows(text: str) -> dict[str, set[str]]:
     """What each processor imports by the table of the page."""
     found = re.search(re.escape(HEAD) + r"((?:\|.*\n)+)", text)
     if not found:
-        raise Missing("docs/ABI.md has no table of what the library imports")
+        raise Missing("docs/USING.md has no table of what the library imports")
     cells = [[it.strip("` ") for it in line.strip("|").split("|")] for line in found[1].splitlines()]
     return {name: {row[0] for row in cells if row[place] == "yes"} for place, name in enumerate(PROCESSORS, 1)}
 
@@ -60,5 +60,5 @@ def write(processor: str, found: set[str]) -> None:
 def tried(count: Count, file: str, processor: str) -> None:
     """A library imports what the page says, and has no data that it writes."""
     found, wanted = of(file), rows(page())[processor]
-    count.add(f"liblag.a of {processor} imports the {len(wanted)} symbols of docs/ABI.md", ", ".join(sorted(found ^ wanted)))
+    count.add(f"liblag.a of {processor} imports the {len(wanted)} symbols of docs/USING.md", ", ".join(sorted(found ^ wanted)))
     count.add(f"liblag.a of {processor} has no data that it writes", ", ".join(sorted(data(file))))

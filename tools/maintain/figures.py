@@ -10,7 +10,7 @@ from typing import Callable, NamedTuple, Sequence
 from repository import TOP, Missing
 
 README, LAGD, ASSURANCE, TROUBLE, CONFORM = "README.md", "docs/LAGD.md", "docs/ASSURANCE.md", "docs/TROUBLE.md", "docs/CONFORM.md"
-MEASURED, PEERS, CONTRIBUTING, EXAMPLES = "docs/PERFORMANCE.md", "docs/PEERS.md", "CONTRIBUTING.md", "examples/README.md"
+MEASURED, CONTRIBUTING, EXAMPLES = "docs/MEASURED.md", "CONTRIBUTING.md", "examples/README.md"
 HEADER = "crates/lagffi/include/lag.h"
 ROUNDS, CUT_OFF = (f"crates/lagprogress/specs/{it}.antt" for it in ("Rounds", "CutOff"))
 FEWER, FEWER_IF_PASSIVE, FORGETS = (
@@ -72,23 +72,18 @@ def rounds(what: str) -> tuple[str, str]:
 
 
 COPIES: tuple[Copy, ...] = (
-    *(Copy(page, "in {} to {} minutes on four processors", MEASURED, r"^\|`tools/test`\|(\d+)\|(\d+)\|") for page in (README, ASSURANCE)),
-    Copy(README, "`out/bin/two_ends` prints `both ends distribute after {} ticks of {} ms`", *PRINTS),
-    Copy(README, "within {}.{} s if both ends of each cable are active, and within {}.{} s if one is", *UNTIL_UP),
-    Copy(README, "That is {} and {} rounds of 100 ms", ROUNDS, r"^up_if_both_active = (\d+)$[^=]*^up_if_one_is = (\d+)$"),
-    Copy(README, "takes [{} ns](docs/PERFORMANCE.md#times-of-calls)", MEASURED, r"^\|receive, LACPDU that changes nothing\|[\d.]+\|([\d.]+)(?:\|[\d.]+){7}\|$"),
-    Copy(README, "from C {} to {} ns, and", MEASURED, r"^\|an LACPDU that changes nothing\|(\d+)-(\d+)\|"),
-    Copy(README, "`niw_resume` of c/lag.c takes there {} octets of", MEASURED, r"^\|`niw_resume`, c/lag\.c\|.*\|([\d,]+)\|-\|$"),
-    # Of these none came out of order, which is a 0 of the row.
-    Copy(README, "Of {} frames sent through `lagd`", MEASURED, r"^\|lagd\|([\d,]+)\|[\d,]+\|\d+\|0\|0\|"),
+    Copy(ASSURANCE, "in {} to {} minutes on four processors", MEASURED, r"^\|`tools/test`\|(\d+)\|(\d+)\|"),
+    Copy(README, "prints: both ends distribute after {} ticks of {} ms", *PRINTS),
+    Copy(README, "every sound link between them within {}.{} s ({}.{} s if one end is passive)", *UNTIL_UP),
+    Copy(README, "The second line runs {} tests on a simulated device", *CONFORMS),
     Copy("docs/USING.md", "It prints `both ends distribute after {} ticks of {} ms`", *PRINTS),
-    Copy("docs/ABI.md", "{} octets, {} more for each port, {} for each conversation of each aggregator, and {} for each aggregator", HEADER,
+    Copy("docs/USING.md", "{} octets, {} more for each port, {} for each conversation of each aggregator, and {} for each aggregator", HEADER,
          r"\(size_t\)(\d+) \+ \(size_t\)(\d+) \* \(ports\) \+ \(\(size_t\)(\d+) \* \(conversations\) \+ (\d+)\) \* \(aggregators\)"),
     Copy(MEASURED, "one aggregator of 256 conversations, which take {} octets each", HEADER, r"\(size_t\)(\d+) \* \(conversations\)"),
     Copy(MEASURED, "Not reached: 5 ns for `offer_conversation` with one conversation in use, which takes {} to {} ns", MEASURED,
          rf"^\|offer_conversation{OVER_FIVE}(?:\|[\d.]+){{5}}{OVER_FIVE}(?:\|[\d.]+){{2}}\|$"),
-    Copy(LAGD, "It ran [on Linux {}](PEERS.md#one-run)", PEERS, r"^This run is of .* on Linux ([\d.]+) and"),
-    Copy(LAGD, "and [{}, {} and {}](PERFORMANCE.md#guests-with-kernels-of-debian).", MEASURED, r"^\|what happens\|([\d.]+)\|([\d.]+)\|([\d.]+) \(virtio"),
+    Copy(LAGD, "It ran [on Linux {}](MEASURED.md#one-run)", MEASURED, r"^This run is of .* on Linux ([\d.]+) and"),
+    Copy(LAGD, "and [{}, {} and {}](MEASURED.md#guests-with-kernels-of-debian).", MEASURED, r"^\|what happens\|([\d.]+)\|([\d.]+)\|([\d.]+) \(virtio"),
     *(Copy(LAGD, f"|{{}}, {{}}|{{}}; {{}}|{chosen}|", MEASURED, rf"^\|{way}\|([\d.]+)\|([\d.]+)\|(?:[\d.]+\|){{3}}(\d+)\|\d+\|([\d.]+)\|") for way, chosen in WAYS.items()),
     Copy(CONTRIBUTING, "as there are processors and {} GB of memory for each", "tools/lanes.py", r"^EACH = (\d+)_000_000_000$"),
     Copy(ASSURANCE, "with one conversation, two links, two moves and {} frames,", "tools/maintain/carry.d/models.py", r"^FRAMES, MORE = (\d+), \d+$"),
@@ -113,15 +108,14 @@ COPIES: tuple[Copy, ...] = (
     Copy(TROUBLE, "|at most {}.{} s, or {}.{} s if one end is active: bounds, not the least", *UNTIL_UP),
     Copy("docs/COMMAND.md", '{"record":"counts","packets":{},"slow":{},"ends":{},"findings":{},"beyond":{}}', "examples/captures/marker-echo.json",
          r'^{"record":"counts","packets":(\d+),"slow":(\d+),"ends":(\d+),"findings":(\d+),"beyond":(\d+)}$'),
-    Copy(CONFORM, "{} tests on 2 links, some 12 min", PEERS, r"^\|\*pass\*\|(\d+)\|.*\n\|\*fail\*\|0\|.*\n\|\*inconclusive\*\|0\|.*\n\|\*skipped\*\|0\|"),
-    Copy(CONFORM, "{} pass, {} fail, {} inconclusive, {} skipped", PEERS,
+    Copy(CONFORM, "{} tests on 2 links, some 12 min", MEASURED, r"^\|\*pass\*\|(\d+)\|.*\n\|\*fail\*\|0\|.*\n\|\*inconclusive\*\|0\|.*\n\|\*skipped\*\|0\|"),
+    Copy(CONFORM, "{} pass, {} fail, {} inconclusive, {} skipped", MEASURED,
          r"^\|\*pass\*\|\d+\|(\d+)\|.*\n\|\*fail\*\|\d+\|(\d+)\|.*\n\|\*inconclusive\*\|\d+\|(\d+)\|.*\n\|\*skipped\*\|\d+\|(\d+)\|"),
-    Copy(README, "a verdict of each of up to [{} tests](docs/CONFORM.md#how-many-tests)", *CONFORMS),
     Copy("CHANGELOG.md", "([CONFORM](docs/CONFORM.md)): {} tests, reports as lines", *CONFORMS),
-    Copy("hosts/openvswitch/README.md", "{} of {} were lost with its own LACP, and {} with this one", PEERS,
+    Copy("hosts/openvswitch/README.md", "{} of {} were lost with its own LACP, and {} with this one", MEASURED,
          r"^\|the daemon ends, and another one starts 0\.3 s later\|(\d+) of ([\d,]+) lost\|(\d+):"),
     Copy("docs/FIRMWARE.md", "of the {} tests of [lagconform](#is-my-build-right)", *CONFORMS),
-    Copy("docs/CONFORMANCE.md", "[{} tests pass and none fails](PEERS.md#conformance)", PEERS,
+    Copy("docs/PROFILE.md", "[{} tests pass and none fails](MEASURED.md#conformance)", MEASURED,
          r"^\|\*pass\*\|(\d+)\|.*\n\|\*fail\*\|0\|.*\n\|\*inconclusive\*\|0\|.*\n\|\*skipped\*\|0\|"),
 )
 

@@ -42,7 +42,7 @@ def check_programs(folder: str, libraries: list[str]) -> None:
 
 
 def check_no_libc(folder: str, libraries: list[str]) -> None:
-    """The library works without a C library, over the functions that docs/ABI.md lists, and lag.h without its headers: with the compiler's alone."""
+    """The library works without a C library, over the functions that docs/USING.md lists, and lag.h without its headers: with the compiler's alone."""
     headers = command(*COMPILER, "-print-file-name=include").stdout.strip()
     words = [*STRICT, "-ffreestanding", "-nostdinc", "-isystem", headers, "-nostdlib", "-static"]
     told = ran(build(os.path.join(folder, "no_libc"), [os.path.join(EXAMPLES, "no_libc.c")], libraries, *words))

@@ -1,4 +1,4 @@
-"""The moves of docs/MOVING.md: a machine with a bond0 goes to lag0 and back by the lines of the page as they stand there, with each network tool."""
+"""The moves of docs/LAGD.md: a machine with a bond0 goes to lag0 and back by the lines of the page as they stand there, with each network tool."""
 
 from __future__ import annotations
 
@@ -16,7 +16,7 @@ from guest import Guest
 from native import CARD
 from repository import TOP, read_text
 
-PAGE = read_text(os.path.join(TOP, "docs", "MOVING.md"))
+PAGE = read_text(os.path.join(TOP, "docs", "LAGD.md"))
 # For how many seconds a way is awaited; that back comes by itself after so many, as the page has it.
 MOVES, ITSELF = 240, 300
 PING = f"ip netns exec far ping -q -c 1 -W 1 {NEAR_AT} >/dev/null"
@@ -107,7 +107,7 @@ def blocks(heading: str) -> list[str]:
 def said(line: str) -> str:
     """A line of the text of the page."""
     if f"`{line}`" not in PAGE:
-        raise Failed("docs/MOVING.md has the line", line)
+        raise Failed("docs/LAGD.md has the line", line)
     return line
 
 

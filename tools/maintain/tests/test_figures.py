@@ -7,7 +7,6 @@ from typing import Any
 import pytest
 
 import loading
-from repository import Missing
 
 figures = loading.module("", "figures")
 TABLE = "|way|frames|\n|lagd|10|\n"
@@ -40,15 +39,6 @@ def test_a_sentence_stands_once_and_its_source_says_one_thing(text: str, source:
     told = figures.written(lambda path: {"A": text, "B": source, "C": "9 ways"}[path], faults, copies)
     assert told["C"] == f"{source.count('way')} ways" and told.get("A", text) == (text if fault else text.replace("7", "10"))
     assert len(faults) == (1 if fault else 0) and (fault or "") in "".join(faults)
-
-
-def test_a_table_with_frames_out_of_order_is_refused() -> None:
-    copy = next(it for it in figures.COPIES if it.sentence.startswith("Of {} frames"))
-    row = "|lagd|10,584,000|58,176|200|{}|0|1|\n"
-    text = "Of 1 frames sent through `lagd`"
-    assert figures.with_figures(copy, text, lambda path: row.format(0)) == "Of 10,584,000 frames sent through `lagd`"
-    with pytest.raises(Missing):
-        figures.with_figures(copy, text, lambda path: row.format(1))
 
 
 @pytest.mark.parametrize(
