@@ -13330,20 +13330,13 @@ struct niw_made lagffi_new(struct niw_system *handle, const struct niw_config *c
     u64 ports_at = AT(ports);
     if (!(SAME_niw_system)) in_niw_system(AT(handle_), handle);
     if (!(SAME_niw_config)) in_niw_config(AT(config_), config);
-    if (!(SAME_uint16_t)) keys_at = key_count <= 64 ? AT(keys_) : list_of(key_count, 2);
-    for (size_t at = 0; !(SAME_uint16_t) && keys_at && at < key_count; at++) in_uint16_t(keys_at + 2 * at, &keys[at]);
-    if (!(SAME_niw_port)) ports_at = port_count <= 64 ? AT(ports_) : list_of(port_count, 16);
-    for (size_t at = 0; !(SAME_niw_port) && ports_at && at < port_count; at++) in_niw_port(ports_at + 16 * at, &ports[at]);
-    if ((!(SAME_uint16_t) && !keys_at) || (!(SAME_niw_port) && !ports_at)) {
-        if (!(SAME_uint16_t) && key_count > 64) free_of(P(keys_at));
-        if (!(SAME_niw_port) && port_count > 64) free_of(P(ports_at));
-        return (struct niw_made){.status = NIW_NO_MEMORY};
-    }
+    if (!(SAME_uint16_t) && key_count <= 64) keys_at = AT(keys_);
+    for (size_t at = 0; !(SAME_uint16_t) && key_count <= 64 && at < key_count; at++) in_uint16_t(keys_at + 2 * at, &keys[at]);
+    if (!(SAME_niw_port) && port_count <= 64) ports_at = AT(ports_);
+    for (size_t at = 0; !(SAME_niw_port) && port_count <= 64 && at < port_count; at++) in_niw_port(ports_at + 16 * at, &ports[at]);
     its_new(AT(told_), SAME_niw_system ? AT(handle) : AT(handle_), SAME_niw_config ? AT(config) : AT(config_), keys_at, (u64)key_count, ports_at, (u64)port_count);
     out_niw_made(&told, AT(told_));
     if (!(SAME_niw_system)) out_niw_system(handle, AT(handle_));
-    if (!(SAME_uint16_t) && key_count > 64) free_of(P(keys_at));
-    if (!(SAME_niw_port) && port_count > 64) free_of(P(ports_at));
     return told;
 }
 
@@ -13803,23 +13796,25 @@ struct niw_made lagffi_resume(struct niw_system *handle, const struct niw_config
     u64 saved_at = AT(saved);
     if (!(SAME_niw_system)) in_niw_system(AT(handle_), handle);
     if (!(SAME_niw_config)) in_niw_config(AT(config_), config);
-    if (!(SAME_uint16_t)) keys_at = key_count <= 64 ? AT(keys_) : list_of(key_count, 2);
-    for (size_t at = 0; !(SAME_uint16_t) && keys_at && at < key_count; at++) in_uint16_t(keys_at + 2 * at, &keys[at]);
-    if (!(SAME_niw_port)) ports_at = port_count <= 64 ? AT(ports_) : list_of(port_count, 16);
-    for (size_t at = 0; !(SAME_niw_port) && ports_at && at < port_count; at++) in_niw_port(ports_at + 16 * at, &ports[at]);
+    if (!(SAME_uint16_t) && key_count <= 64) keys_at = AT(keys_);
+    for (size_t at = 0; !(SAME_uint16_t) && key_count <= 64 && at < key_count; at++) in_uint16_t(keys_at + 2 * at, &keys[at]);
+    if (!(SAME_niw_port) && port_count <= 64) ports_at = AT(ports_);
+    for (size_t at = 0; !(SAME_niw_port) && port_count <= 64 && at < port_count; at++) in_niw_port(ports_at + 16 * at, &ports[at]);
+    if (!(SAME_niw_saved) && saved_count > 64) {
+        its_resume(AT(told_), SAME_niw_system ? AT(handle) : AT(handle_), SAME_niw_config ? AT(config) : AT(config_), keys_at, (u64)key_count, ports_at, (u64)port_count, AT(saved_), 0);
+        out_niw_made(&told, AT(told_));
+        if (told.status != NIW_OK) return told;
+        its_free(SAME_niw_system ? AT(handle) : AT(handle_));
+    }
     if (!(SAME_niw_saved)) saved_at = saved_count <= 64 ? AT(saved_) : list_of(saved_count, 132);
     for (size_t at = 0; !(SAME_niw_saved) && saved_at && at < saved_count; at++) in_niw_saved(saved_at + 132 * at, &saved[at]);
-    if ((!(SAME_uint16_t) && !keys_at) || (!(SAME_niw_port) && !ports_at) || (!(SAME_niw_saved) && !saved_at)) {
-        if (!(SAME_uint16_t) && key_count > 64) free_of(P(keys_at));
-        if (!(SAME_niw_port) && port_count > 64) free_of(P(ports_at));
+    if ((!(SAME_niw_saved) && !saved_at)) {
         if (!(SAME_niw_saved) && saved_count > 64) free_of(P(saved_at));
         return (struct niw_made){.status = NIW_NO_MEMORY};
     }
     its_resume(AT(told_), SAME_niw_system ? AT(handle) : AT(handle_), SAME_niw_config ? AT(config) : AT(config_), keys_at, (u64)key_count, ports_at, (u64)port_count, saved_at, (u64)saved_count);
     out_niw_made(&told, AT(told_));
     if (!(SAME_niw_system)) out_niw_system(handle, AT(handle_));
-    if (!(SAME_uint16_t) && key_count > 64) free_of(P(keys_at));
-    if (!(SAME_niw_port) && port_count > 64) free_of(P(ports_at));
     if (!(SAME_niw_saved) && saved_count > 64) free_of(P(saved_at));
     return told;
 }

@@ -13,15 +13,20 @@ from wasm import Module
 BITS = {"uint8_t": 8, "bool": 8, "uint16_t": 16, "uint32_t": 32, "uint64_t": 64, "size_t": 64, "void *": 64}
 # A list that has another layout, and no more than so many elements, is copied to the stack; a longer one to memory.
 FEW = 64
+# The lists of a configuration: a longer one is refused by its length, before an element of it is read, so it is not copied.
+OF_CONFIGURATION = "keys", "ports"
+# The functions that take a configuration. What they refuse of it comes before a long list behind it is copied.
+CONFIGURED = "new", "resume"
 
 
 class Call:
-    """A call of the module: what is given, what stands before it and behind it, and the lists that want memory."""
+    """A call of the module: what is given, what stands before it and behind it, the lists that may want memory, and how they are copied."""
 
     def __init__(self) -> None:
         self.given: list[str] = []
         self.declared: list[str] = []
         self.before: list[str] = []
+        self.copied: list[str] = []
         self.after: list[str] = []
         self.lists: list[str] = []
 
@@ -100,12 +105,22 @@ class Shim:
             call.given += ["AT(told_)"] if len(kind.given) > len(it.given) else []
         for place, field in enumerate(it.given):
             after = it.given[place + 1] if place + 1 < len(it.given) else None
-            self.parameter(field, after.name if after and after.kind == "size_t" and "*" in field.kind else "", call)
+            self.parameter(field, after.name if after and after.kind == "size_t" and "*" in field.kind else "", call, it.name in CONFIGURED)
         is_small = bool(told) and len(kind.given) == len(it.given)
         if len(call.given) != len(kind.given) or (is_small and (kind.told != ["u64"] or self.size(told) > 8)):
             raise Missing(f"lagffi_{it.name} is another function in the module than its source says")
         head = f"{it.answer} lagffi_{it.name}({it.parameters()}) {{"
-        return "\n".join([head, *call.declared, *call.before, *self.refusal(it, call), *self.body(it, call, told, is_small), "}\n"])
+        return "\n".join([head, *call.declared, *call.before, *self.first(it, call), *call.copied, *self.refusal(it, call), *self.body(it, call, told, is_small), "}\n"])
+
+    def first(self, it: Export, call: Call) -> list[str]:
+        """The refusal of a configuration, before a long list behind it is copied: the call without its elements tells it."""
+        if it.name not in CONFIGURED or not call.lists:
+            return []
+        listed, many = it.given[-2:]
+        kind = listed.kind.removeprefix("const struct ").removesuffix("*").strip()
+        called = f"its_{it.name}({', '.join([*call.given[:-2], f'AT({listed.name}_)', '0'])});"
+        rows = [called, f"out_{it.answer[7:]}(&told, AT(told_));", "if (told.status != NIW_OK) return told;", f"its_free({call.given[1]});"]
+        return [f"    if (!(SAME_{kind}) && {many.name} > {FEW}) {{", *(f"        {row}" for row in rows), "    }"]
 
     def body(self, it: Export, call: Call, told: str, is_small: bool) -> list[str]:
         """The call, and what follows it."""
@@ -123,7 +138,7 @@ class Shim:
         freed = [line for line in call.after if "free_of" in line]
         return [f"    if ({' || '.join(call.lists)}) {{", *(f"    {line}" for line in freed), f"        return {zeros};", "    }"]
 
-    def parameter(self, field: Field, many: str, call: Call) -> None:
+    def parameter(self, field: Field, many: str, call: Call, is_configured: bool) -> None:
         """How a parameter goes in, and out again; `many` names the number of its elements."""
         name, is_const = field.name, field.kind.startswith("const ")
         to = field.kind.removeprefix("const ").removesuffix("*").strip().removeprefix("struct ")
@@ -132,7 +147,7 @@ class Shim:
         elif to in ("uint8_t", "bool"):
             call.given.append(f"AT({name})")
         elif many and is_const:
-            self.copied_list(name, to, many, call)
+            self.copied_list(name, to, many, call, is_configured and name in OF_CONFIGURATION)
         elif many:
             self.turned += [to] if to not in self.turned else []
             self.read += [to] if to not in self.read else []
@@ -148,13 +163,18 @@ class Shim:
                 self.written += [to] if to not in self.written else []
                 call.after.append(f"    if (!(SAME_{to})) out_{to}({name}, AT({name}_));")
 
-    def copied_list(self, name: str, to: str, many: str, call: Call) -> None:
-        """A list that the module reads alone: of another layout it is copied."""
+    def copied_list(self, name: str, to: str, many: str, call: Call, is_short: bool) -> None:
+        """A list that the module reads alone: of another layout it is copied. One that is to be short is given as it is where it is not."""
         size = self.size(to)
         self.read += [to] if to not in self.read else []
         call.declared += [f"    ARRAY({name}_, SAME_{to} ? 1 : {FEW * size});", f"    u64 {name}_at = AT({name});"]
-        call.before.append(f"    if (!(SAME_{to})) {name}_at = {many} <= {FEW} ? AT({name}_) : list_of({many}, {size});")
-        call.before.append(f"    for (size_t at = 0; !(SAME_{to}) && {name}_at && at < {many}; at++) in_{to}({name}_at + {size} * at, &{name}[at]);")
+        if is_short:
+            call.before.append(f"    if (!(SAME_{to}) && {many} <= {FEW}) {name}_at = AT({name}_);")
+            call.before.append(f"    for (size_t at = 0; !(SAME_{to}) && {many} <= {FEW} && at < {many}; at++) in_{to}({name}_at + {size} * at, &{name}[at]);")
+            call.given.append(f"{name}_at")
+            return
+        call.copied.append(f"    if (!(SAME_{to})) {name}_at = {many} <= {FEW} ? AT({name}_) : list_of({many}, {size});")
+        call.copied.append(f"    for (size_t at = 0; !(SAME_{to}) && {name}_at && at < {many}; at++) in_{to}({name}_at + {size} * at, &{name}[at]);")
         call.after.append(f"    if (!(SAME_{to}) && {many} > {FEW}) free_of(P({name}_at));")
         call.lists.append(f"(!(SAME_{to}) && !{name}_at)")
         call.given.append(f"{name}_at")
