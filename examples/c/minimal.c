@@ -13,12 +13,15 @@
 #include <sys/ioctl.h>
 #include <sys/socket.h>
 #include <sys/timerfd.h>
+#include <time.h>
 #include <unistd.h>
 
 #include "lag.h"
 
 #define MOST_FRAMES 64 /* that are taken in a turn, so that no flood stops the clock */
 #define MOST_TICKS 10  /* that are made up after a stall, so that a link does not expire whose LACPDUs waited in the socket */
+#define RESPONSES 10   /* markers that are answered at most in a second (802.3, 57A.2) */
+#define SECOND_MS 1100 /* with what the frames may come closer on their way */
 
 static const uint8_t GROUP[6] = {0x01, 0x80, 0xc2, 0x00, 0x00, 0x02};
 static struct niw_system here = NIW_EMPTY;
@@ -56,6 +59,20 @@ static bool follow_link(void) {
     return true;
 }
 
+/* Whether fewer markers than the most were answered within a second; it notes this one, then. */
+static bool may_respond(void) {
+    static int64_t answered[RESPONSES];
+    static unsigned oldest;
+    struct timespec time;
+    int64_t now;
+    clock_gettime(CLOCK_BOOTTIME, &time);
+    now = (int64_t)time.tv_sec * 1000 + time.tv_nsec / 1000000 + SECOND_MS; /* so that 0 is long ago */
+    if (now - answered[oldest] < SECOND_MS) return false;
+    answered[oldest] = now;
+    oldest = (oldest + 1) % RESPONSES;
+    return true;
+}
+
 /* Takes the frames that wait, and answers markers. A frame to another address than that of the group may come from anybody. */
 static void take_frames(void) {
     uint8_t frame[2048], response[NIW_FRAME];
@@ -65,7 +82,7 @@ static void take_frames(void) {
         if (octets < 0) return;
         if (octets < ETH_HLEN || memcmp(frame, GROUP, sizeof GROUP) != 0) continue;
         received = niw_receive(&here, 1, frame, (size_t)octets, response, sizeof response);
-        if (received.what == NIW_RECEIVED_RESPOND) send(wire, response, received.number, 0);
+        if (received.what == NIW_RECEIVED_RESPOND && may_respond()) send(wire, response, received.number, 0);
     }
 }
 

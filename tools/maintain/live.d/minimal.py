@@ -11,8 +11,10 @@ from checking import check, within
 from daemon import ENDS, Daemon, Part
 from daemons import COMES_UP, GOES_DOWN, STALL, STRANGER
 from repository import read_text
-from spaces import OURS, THEIRS, Wire, inside, ip, lacpdu, marker
+from spaces import OURS, THEIRS, Wire, inside, ip, lacpdu, marker, most_within
 
+# How many markers it is sent in a burst, and what a response begins with.
+BURST, RESPONSE = 40, marker(2)[:3]
 UP, DOWN = "a0: it distributes", "a0: the link is down"
 WAITS, SILENT, ALONE = "a0: it waits for wait_while", "a0: no LACPDU came in time", "a0: it distributes without a partner"
 GONE = "minimal: a0: No such device"
@@ -66,6 +68,19 @@ def meets_strangers(ours: Minimal, theirs: Daemon) -> None:
     check(holds, "after one of another system to the right address it waits, and distributes again", ours.printed())
 
 
+def floods_markers() -> None:
+    """No more than ten frames of a slow protocol leave in a second (802.3, 57A.2)."""
+    wire = Wire(THEIRS, "b0")
+    time.sleep(STALL)
+    wire.arrivals(RESPONSE)
+    for number in range(3 * BURST):
+        wire.send(marker(1, number=number))
+        time.sleep(0 if number < BURST else 0.025)
+    time.sleep(1)
+    found = wire.arrivals(RESPONSE)
+    check(most_within(found) == 10 and len(found) >= 20, "of a flood of markers it answers ten within a second, and goes on so", most_within(found), len(found))
+
+
 def misses_ticks(ours: Minimal, theirs: Daemon) -> None:
     """It is stopped for longer than three short periods, while LACPDUs wait in its socket."""
     before, sent = ours.printed(), theirs.count("b0", "lacpdus_sent")
@@ -83,6 +98,7 @@ def minimal(part: Part) -> None:
     ours, theirs = Minimal(part, program), part.theirs("b0", options=["--timeout", "long"])
     comes_up(ours, theirs)
     meets_strangers(ours, theirs)
+    floods_markers()
     misses_ticks(ours, theirs)
     lines = [UP, WAITS, UP]
     for word, line in ("down", DOWN), ("up", UP):
