@@ -37,7 +37,8 @@ struct lacp {
     struct member *first;       /* Whose key all have; NULL if there is no member. */
     uint16_t key;               /* That key. It stays if the first one leaves and the next one has none of its own. */
     struct lag_end end;
-    uint16_t carries;           /* The aggregator that carries, or 0. */
+    uint16_t carries;           /* The aggregator that carries, or would; or 0. */
+    lacp_send_pdu *send_pdu;    /* That lacp_run() was given. */
     bool to_remake;             /* Whether the system has to be made anew, */
     long long int try_at;       /* and when, if it was refused; or 0. */
     struct ovs_refcount ref_cnt;
@@ -54,6 +55,7 @@ struct member {
     struct niw_view view;       /* As niw_views told it last. */
     struct lag_heard heard;
     struct lag_limit limit;
+    struct lag_wake wake;
     uint8_t responses[LAG_RESPONSES][NIW_FRAME];
     unsigned int n_responses;   /* That the next lacp_run() sends. */
     struct niw_counters counts;
@@ -104,7 +106,9 @@ is_current(const struct member *member)
 static bool
 on_defaults(const struct member *member)
 {
-    return member->in && member->view.receive_state == NIW_RECEIVE_DEFAULTED;
+    uint8_t state = member->view.receive_state;
+
+    return member->in && (state == NIW_RECEIVE_DEFAULTED || (state == NIW_RECEIVE_EXPIRED && member->wake.woken));
 }
 
 static bool
@@ -113,11 +117,11 @@ distributes(const struct member *member)
     return member->in && member->view.state & NIW_STATE_DISTRIBUTING && !member->view.defaulted;
 }
 
-/* Whether the member has a partner, and is in the aggregator that carries. */
+/* Whether the member has a carrier and a partner, and is in the aggregator that carries. */
 static bool
 has_partner(const struct member *member)
 {
-    return (member->in && member->view.state & NIW_STATE_SYNCHRONIZATION && !member->view.defaulted
+    return (member->in && member->carrier_up && member->view.state & NIW_STATE_SYNCHRONIZATION && !member->view.defaulted
             && (!member->lacp->carries || member->view.aggregator == member->lacp->carries));
 }
 
@@ -168,24 +172,18 @@ count_change(struct member *member, const struct niw_view *now)
 
     if (member->view.port && now->receive_state != was) {
         member->expired += now->receive_state == NIW_RECEIVE_EXPIRED && was == NIW_RECEIVE_CURRENT;
-        member->defaulted += now->receive_state == NIW_RECEIVE_DEFAULTED;
+        member->defaulted += now->receive_state == NIW_RECEIVE_DEFAULTED && !member->wake.woken;
     }
 }
 
-/* Takes over what the system shows now. */
-static void
-refresh(struct lacp *lacp)
+/* Takes the views over; returns whether one changed. */
+static bool
+read_views(struct lacp *lacp, struct niw_view views[NIW_MOST_PORTS])
 {
-    struct niw_view views[NIW_MOST_PORTS];
     struct member *member;
-    uint16_t before = lacp->carries;
     bool changed = false;
 
-    if (!lacp->end.system.live) {
-        return;
-    }
     lag_end_views(&lacp->end, views);
-    lacp->carries = (uint16_t) niw_active_aggregator(&lacp->end.system, before).number;
     HMAP_FOR_EACH (member, node, &lacp->members) {
         const struct niw_view *view = member->in ? lag_view_of(views, member->port_id) : NULL;
 
@@ -195,7 +193,42 @@ refresh(struct lacp *lacp)
             member->view = *view;
         }
     }
-    if (changed || before != lacp->carries || niw_due(&lacp->end.system).number) {
+    return changed;
+}
+
+/* Wakes the members that run on defaults and are in no use; returns whether it did. */
+static bool
+wake_members(struct lacp *lacp)
+{
+    bool idle = !falls_back(lacp), woken = false;
+    struct member *member;
+
+    HMAP_FOR_EACH (member, node, &lacp->members) {
+        woken |= member->in && member->view.port
+                 && lag_end_wake(&lacp->end, &member->view, &member->wake, idle, time_msec());
+    }
+    return woken;
+}
+
+/* Takes over what the system shows now, and has it use the aggregator that carries. */
+static void
+refresh(struct lacp *lacp)
+{
+    struct niw_view views[NIW_MOST_PORTS];
+    uint16_t before = lacp->carries;
+    bool changed;
+
+    if (!lacp->end.system.live) {
+        return;
+    }
+    changed = read_views(lacp, views);
+    lacp->carries = lag_end_choose(views, NULL, LAG_STAYS_WHILE_READY, before);
+    bool others = lag_end_use(&lacp->end, lacp->carries);
+    others |= wake_members(lacp);
+    if (others) {
+        changed = read_views(lacp, views) || changed;
+    }
+    if (changed || before != lacp->carries || lag_end_is_due(&lacp->end)) {
         wake();
     }
 }
@@ -336,6 +369,40 @@ find_key(struct lacp *lacp)
     lacp->to_remake = lacp->to_remake || lacp->key != was;
 }
 
+/* Sends what is due on a member, in this order: responses to markers, and LACPDUs. */
+static void
+send_due(struct member *member)
+{
+    struct lacp *lacp = member->lacp;
+    uint8_t frame[NIW_FRAME];
+
+    for (unsigned int i = 0; i < member->n_responses; i++) {
+        if (lag_may_respond(&member->limit, time_msec())) {
+            niw_count_sent(&member->counts, member->responses[i], NIW_FRAME);
+            lacp->send_pdu(member->aux, member->responses[i] + ETH_HEADER_LEN, NIW_PAYLOAD_LENGTH);
+        }
+    }
+    member->n_responses = 0;
+    while (member->in && lag_end_transmit(&lacp->end, member->port_id, &member->limit, frame, time_msec()).is) {
+        niw_count_sent(&member->counts, frame, NIW_FRAME);
+        lacp->send_pdu(member->aux, frame + ETH_HEADER_LEN, NIW_PAYLOAD_LENGTH);
+        wake();
+    }
+}
+
+/* The member leaves: its partner is told that it is in no use. */
+static void
+take_leave(struct member *member)
+{
+    struct lacp *lacp = member->lacp;
+
+    if (member->in && member->carrier_up && lacp->send_pdu && !lacp->to_remake) {
+        lag_end_advance(&lacp->end, time_msec());
+        niw_hold(&lacp->end.system, member->port_id, true);
+        send_due(member);
+    }
+}
+
 static void
 destroy(struct member *member)
 {
@@ -456,7 +523,7 @@ process(struct member *member, const uint8_t *frame, size_t length)
         refresh(lacp);
         break;
     case NIW_RECEIVED_RESPOND:
-        if (member->n_responses < LAG_RESPONSES && lag_may_respond(&member->limit, time_msec())) {
+        if (member->n_responses < LAG_RESPONSES) {
             memcpy(member->responses[member->n_responses++], response, sizeof response);
             wake();
         }
@@ -558,6 +625,7 @@ lacp_member_unregister(struct lacp *lacp, const void *aux)
     lock();
     struct member *member = find(lacp, aux);
     if (member) {
+        take_leave(member);
         destroy(member);
     }
     unlock();
@@ -607,22 +675,13 @@ void
 lacp_run(struct lacp *lacp, lacp_send_pdu *send_pdu)
 {
     struct member *member;
-    uint8_t frame[NIW_FRAME];
 
     lock();
+    lacp->send_pdu = send_pdu;
     advance(lacp);
     refresh(lacp);
     HMAP_FOR_EACH (member, node, &lacp->members) {
-        for (unsigned int i = 0; i < member->n_responses; i++) {
-            niw_count_sent(&member->counts, member->responses[i], NIW_FRAME);
-            send_pdu(member->aux, member->responses[i] + ETH_HEADER_LEN, NIW_PAYLOAD_LENGTH);
-        }
-        member->n_responses = 0;
-        while (member->in && niw_transmit(&lacp->end.system, member->port_id, frame, sizeof frame).is) {
-            niw_count_sent(&member->counts, frame, NIW_FRAME);
-            send_pdu(member->aux, frame + ETH_HEADER_LEN, NIW_PAYLOAD_LENGTH);
-            wake();
-        }
+        send_due(member);
     }
     unlock();
 }
@@ -641,6 +700,9 @@ lacp_wait(struct lacp *lacp)
     HMAP_FOR_EACH (member, node, &lacp->members) {
         if (member->n_responses) {
             poll_immediate_wake();
+        }
+        if (member->wake.at) {
+            poll_timer_wait_until(member->wake.at);
         }
     }
     unlock();
@@ -672,7 +734,7 @@ put_member(struct ds *ds, const struct member *member)
     const struct lacp *lacp = member->lacp;
 
     ds_put_format(ds, "\nmember: %s: %s %s\n", member->name,
-                  is_current(member) ? "current" : on_defaults(member) ? "defaulted" : "expired",
+                  is_current(member) ? "current" : on_defaults(member) || !member->carrier_up ? "defaulted" : "expired",
                   is_attached(member) ? "attached" : "detached");
     ds_put_format(ds, "  port_id: %u\n  port_priority: %u\n  may_enable: %s\n", member->port_id, member->port_priority,
                   may_enable(member) ? "true" : "false");

@@ -16,8 +16,12 @@
 
 #include "lag.h"
 
-/* The most responses to markers that a port sends in a second. */
+/* By the clock of the host, a port sends no more responses to markers than these in so many ms: ten in a second (IEEE 802.3, 57A.2), and what they may wait for
+ * their turn. Nor more LACPDUs (6.4.16): the library counts these by its ticks, of which a host that was late makes up several at once. */
 #define LAG_RESPONSES 10
+#define LAG_RESPONSES_MS 1250
+#define LAG_LACPDUS 3
+#define LAG_LACPDUS_MS 1000
 
 /* Where the frame of an LACPDU has the state of its sender, and the state that this knows of the port to which it is sent. */
 #define LAG_ACTOR_STATE 32
@@ -26,6 +30,10 @@
 /* How often a partner sends that is asked for short or long timeouts, in ticks (IEEE 802.1AX-2014, 6.4.4). */
 #define LAG_FAST_TICKS 10
 #define LAG_SLOW_TICKS 300
+
+/* How long a port is on defaults before it is woken, in ms: the first time, and at most. */
+#define LAG_FIRST_WAKE_MS 1000
+#define LAG_LAST_WAKE_MS 30000
 
 /* The library of c/lag.c has this text, the native one has not. */
 extern const char niw_lag_c[] __attribute__((weak));
@@ -41,6 +49,8 @@ struct lag_end {
     struct niw_system system;
     int64_t ticked;       /* When the last tick was due, in ms of the caller's clock, which is not set back. */
     uint32_t next_marker; /* Of the system that comes next; 0 is as 1. */
+    uint64_t waits;       /* The ports whose LACPDU is due, and waits for the limit by the clock: a mask as that of niw_due. */
+    uint16_t uses;        /* The aggregator in use, or 0 for all: lag_end_use. */
 };
 
 /* The last LACPDU that a port took. */
@@ -62,21 +72,76 @@ struct lag_port {
     uint32_t why;                  /* Of `begins`: NIW_STALE or NIW_NOT_DISTRIBUTING; 0 of a port without an LACPDU or a link. */
 };
 
-/* How many responses to markers a port may send still. */
+/* When a port sent what it may not send often: its own value, zeros at first, which outlives the systems of lag_end_remake. */
 struct lag_limit {
-    int64_t since;
-    unsigned left;
+    int64_t responses[LAG_RESPONSES];
+    int64_t lacpdus[LAG_LACPDUS];
+    unsigned next_response; /* The place of the oldest one. */
+    unsigned next_lacpdu;
 };
 
-/* Whether the port may answer one more marker. */
+/* Whether a time is so long ago, in ms; one that is not yet is none. */
+static inline bool
+lag_is_past(int64_t at, int64_t ms, int64_t now)
+{
+    return !at || now < at || now - at >= ms;
+}
+
+/* Whether the port may answer one more marker, which it does now, then. */
 static inline bool
 lag_may_respond(struct lag_limit *limit, int64_t now)
 {
-    if (now - limit->since >= 1000 || now < limit->since || !limit->since) {
-        limit->since = now;
-        limit->left = LAG_RESPONSES;
+    int64_t *oldest = &limit->responses[limit->next_response];
+
+    if (!lag_is_past(*oldest, LAG_RESPONSES_MS, now)) {
+        return false;
     }
-    return limit->left && limit->left--;
+    *oldest = now;
+    limit->next_response = (limit->next_response + 1) % LAG_RESPONSES;
+    return true;
+}
+
+/* The bit of a port in the masks of the library. */
+static inline uint64_t
+lag_end_bit(struct lag_end *end, uint16_t port)
+{
+    uint16_t numbers[NIW_MOST_PORTS];
+    uint64_t count = niw_ports(&end->system, numbers, NIW_MOST_PORTS).number;
+
+    for (uint64_t i = 0; i < count; i++) {
+        if (numbers[i] == port) {
+            return UINT64_C(1) << i;
+        }
+    }
+    return 0;
+}
+
+/* What a port is to send now, as niw_transmit has it, of a host that sends no markers: to be asked until it is nothing. An LACPDU that may not go yet stays
+ * due. */
+static inline struct niw_sent
+lag_end_transmit(struct lag_end *end, uint16_t port, struct lag_limit *limit, uint8_t frame[NIW_FRAME], int64_t now)
+{
+    int64_t *oldest = &limit->lacpdus[limit->next_lacpdu];
+    struct niw_sent sent = { .status = NIW_OK };
+
+    if (!niw_is_due(&end->system, port).is) {
+        return sent;
+    }
+    if (!lag_is_past(*oldest, LAG_LACPDUS_MS, now)) {
+        end->waits |= lag_end_bit(end, port);
+        return sent;
+    }
+    end->waits &= ~lag_end_bit(end, port);
+    *oldest = now;
+    limit->next_lacpdu = (limit->next_lacpdu + 1) % LAG_LACPDUS;
+    return niw_transmit(&end->system, port, frame, NIW_FRAME);
+}
+
+/* Whether an LACPDU is due on a port that did not wait for the limit when it was asked last. */
+static inline bool
+lag_end_is_due(struct lag_end *end)
+{
+    return (niw_due(&end->system).number & ~end->waits) != 0;
 }
 
 /* A frame of the slow protocols came, and was taken: notes it for lag_end_remake. Returns whether it tells anything new. */
@@ -121,6 +186,9 @@ lag_end_due(struct lag_end *end)
 {
     struct niw_wait wait = niw_ticks_until_due(&end->system);
 
+    if (wait.ever && !wait.ticks && !lag_end_is_due(end)) {
+        wait.ticks = 1; /* What waits for the limit is tried again. */
+    }
     return wait.ever ? end->ticked + (int64_t) wait.ticks * NIW_TICK_MILLISECONDS : INT64_MAX;
 }
 
@@ -144,6 +212,101 @@ lag_view_of(const struct niw_view views[NIW_MOST_PORTS], uint16_t number)
     return NULL;
 }
 
+/* When a port is woken: its own value, zeros at first. */
+struct lag_wake {
+    int64_t at;    /* Or 0. */
+    int64_t after; /* How long it is on defaults until then. */
+    bool woken;    /* Since it was woken nobody answered: it is on defaults, for who asks, even while it looks for a partner. */
+};
+
+/* To be called for each port, with its view, when that changed, and when `at` has come; returns whether it was woken, so that its view is another one.
+ *
+ * A port on defaults sends an LACPDU each 30 s, so that a link which was silent both ways for more than 6 s would be long in coming back where its partner does
+ * as much. One whose link came up sends one each second. So an active port that is `idle`, which carries nothing, is treated as one: after a second, and then
+ * after twice as long each time. */
+static inline bool
+lag_end_wake(struct lag_end *end, const struct niw_view *view, struct lag_wake *wake, bool idle, int64_t now)
+{
+    bool sleeps = idle && view->up && view->receive_state == NIW_RECEIVE_DEFAULTED && view->state & NIW_STATE_ACTIVITY;
+
+    if (view->receive_state == NIW_RECEIVE_CURRENT || !view->up || !wake->after) {
+        wake->woken = false;
+        wake->after = LAG_FIRST_WAKE_MS;
+    }
+    wake->at = !sleeps ? 0 : wake->at ? wake->at : now + wake->after;
+    if (!sleeps || now < wake->at) {
+        return false;
+    }
+    *wake = (struct lag_wake) { .after = wake->after < LAG_LAST_WAKE_MS / 2 ? 2 * wake->after : LAG_LAST_WAKE_MS, .woken = true };
+    niw_set_link(&end->system, view->port, false);
+    niw_set_link(&end->system, view->port, true);
+    return true;
+}
+
+/* Whether lag.h has niw_set_in_use. */
+#define LAG_HAS_IN_USE (NIW_VERSION >= 13)
+
+/* Whether a port carries; or would, once its aggregator is in use: it has an aggregator, and its partner is in sync. Where all aggregators are in use it carries
+ * by then. */
+static inline bool
+lag_is_ready(const struct niw_view *view)
+{
+    uint8_t state = LAG_HAS_IN_USE ? view->partner_state : view->state, bit = LAG_HAS_IN_USE ? NIW_STATE_SYNCHRONIZATION : NIW_STATE_DISTRIBUTING;
+
+    return view->up && view->aggregator && !view->defaulted && view->port_status != NIW_PORT_STATUS_OWN_SYSTEM && state & bit;
+}
+
+/* How a host chooses the one aggregator that it uses. */
+enum lag_choice {
+    LAG_STAYS_WHILE_READY, /* Another one comes when no port of it is ready. */
+    LAG_STAYS_UNLESS_MORE, /* Or when that one has more. */
+};
+
+/* The aggregator to use, of those that have ports that are ready: the one of which the worth of these is most, then the lowest; 0 if there is none. `now`
+ * is the one in use, or 0. `worth` has the worth of each port by its place in `views`, or is NULL where each is worth as much. */
+static inline uint16_t
+lag_end_choose(const struct niw_view views[NIW_MOST_PORTS], const uint64_t *worth, enum lag_choice rule, uint16_t now)
+{
+    uint64_t sums[NIW_MOST_PORTS + 1] = { 0 };
+    uint16_t best = now;
+
+    for (size_t i = 0; i < NIW_MOST_PORTS && views[i].port; i++) {
+        if (lag_is_ready(&views[i])) {
+            sums[views[i].aggregator] += worth && worth[i] ? worth[i] : 1;
+        }
+    }
+    if (now > NIW_MOST_PORTS || !sums[now]) {
+        best = 0;
+    } else if (rule == LAG_STAYS_WHILE_READY) {
+        return now;
+    }
+    for (uint16_t i = 1; i <= NIW_MOST_PORTS; i++) {
+        best = sums[i] > sums[best] ? i : best;
+    }
+    return best;
+}
+
+/* Has the ports of one aggregator in use, and those of the others stand by, whose partners are told so; with 0 those of all aggregators. Returns whether
+ * anything changed, so that the views are others. A library without the call uses all of them. */
+static inline bool
+lag_end_use(struct lag_end *end, uint16_t aggregator)
+{
+#if LAG_HAS_IN_USE
+    uint64_t count = niw_aggregators(&end->system).number;
+    bool changes = end->uses != aggregator;
+
+    for (uint16_t i = 1; changes && i <= count; i++) {
+        niw_set_in_use(&end->system, i, !aggregator || i == aggregator);
+    }
+    end->uses = aggregator;
+    return changes;
+#else
+    (void) end;
+    (void) aggregator;
+    return false;
+#endif
+}
+
 static inline void
 lag_end_free(struct lag_end *end)
 {
@@ -151,6 +314,8 @@ lag_end_free(struct lag_end *end)
         struct niw_marker next = niw_next_marker(&end->system);
 
         end->next_marker = next.left ? next.id : 1;
+        end->waits = 0;
+        end->uses = 0;
         niw_free(&end->system);
     }
 }
@@ -170,13 +335,13 @@ lag_port_order(const void *one, const void *other)
     return (int) ((const struct lag_port *) one)->port.number - (int) ((const struct lag_port *) other)->port.number;
 }
 
-/* The aggregator in which a port goes on: that which has the key of the first port of its group. */
+/* The aggregator in which a port goes on: that which has the key of the first port of its group that has its key still. */
 static inline uint16_t
 lag_aggregator_of(const struct lag_port *ports, size_t place)
 {
     size_t first = 0;
 
-    while (!(ports[first].carried && ports[first].aggregator == ports[place].aggregator) && first < place) {
+    while (!(ports[first].carried && ports[first].aggregator == ports[place].aggregator && ports[first].port.key == ports[place].port.key) && first < place) {
         first++;
     }
     return (uint16_t) (first + 1);

@@ -1,15 +1,17 @@
 /* What one end of link aggregation (struct lag_end) leaves in a file for the program that comes after it, which goes on from there: after a
  * crash, or after a stop that left the ports in use.
  *
- * Lines of words, the last of which is the word "end":
+ * Lines of words:
  *
  *     niwhopera-lacp VERSION
  *     clocks BOOT-ID MS-OF-THE-BOOT MS-OF-THE-WALL
  *     device NAME IFINDEX ADDRESS NEXT-MARKER
  *     port NAME IFINDEX NUMBER PRIORITY KEY ADDRESS CARRIER-CHANGES CARRIED CHOSEN AGGREGATOR AGE-MS LACPDU
+ *     end SUM
  *
- * LACPDU are the first octets of its frame, of which lag_end_set_mode may have changed a bit, or "-" with an age of -1. A file that is cut short, of
- * another version or with a line that is none of these tells nothing. */
+ * LACPDU are the first octets of its frame, of which lag_end_set_mode may have changed a bit, or "-" with an age of -1. SUM is what cksum (POSIX) prints first
+ * of all lines before: a script that changes a word makes it anew. A file that is not, octet by octet, what is written of the values that it has tells
+ * nothing. */
 #ifndef LAG_STATE_H
 #define LAG_STATE_H
 
@@ -22,7 +24,8 @@
 
 #include "lag_end.h"
 
-#define LAG_STATE_VERSION 1
+#define LAG_STATE_VERSION 2
+#define LAG_STATE_MOST 32768 /* The most octets of a file: each line of a port has fewer than 400. */
 #define LAG_ADDRESS 6
 #define LAG_NAME 16 /* As IFNAMSIZ: hosts differ in which header has it. */
 
@@ -80,6 +83,30 @@ lag_boot_id(void)
     return id;
 }
 
+/* When a state was written: the boot, and the time of its clock and of that on the wall, in ms. */
+struct lag_written {
+    char boot[64];
+    int64_t of_boot, of_wall;
+};
+
+/* The sum of a file, as cksum has it: the CRC of its octets, and of how many there are. */
+static inline uint32_t
+lag_state_sum(const char *text, size_t length)
+{
+    static const uint32_t rests[16] = { 0x00000000, 0x04c11db7, 0x09823b6e, 0x0d4326d9, 0x130476dc, 0x17c56b6b, 0x1a864db2, 0x1e475005,
+                                        0x2608edb8, 0x22c9f00f, 0x2f8ad6d6, 0x2b4bcb61, 0x350c9b64, 0x31cd86d3, 0x3c8ea00a, 0x384fbdbd };
+    uint32_t sum = 0;
+
+    for (size_t i = 0, left = length; i < length || left; i++) {
+        uint32_t octet = i < length ? (uint8_t) text[i] : left & 0xff;
+
+        left = i < length ? left : left >> 8;
+        sum = sum << 4 ^ rests[(sum >> 28) ^ (octet >> 4)];
+        sum = sum << 4 ^ rests[(sum >> 28) ^ (octet & 15)];
+    }
+    return ~sum;
+}
+
 static inline void
 lag_put_octets(FILE *file, const uint8_t *octets, size_t count)
 {
@@ -108,12 +135,10 @@ lag_get_octets(const char *text, uint8_t *octets, size_t count)
 }
 
 static inline void
-lag_state_print(FILE *file, const struct lag_state *state)
+lag_state_print(FILE *file, const struct lag_state *state, const struct lag_written *written)
 {
-    int64_t now = lag_now();
-
-    fprintf(file, "niwhopera-lacp %d\nclocks %s %" PRId64 " %" PRId64 "\ndevice %s %" PRIu32 " ", LAG_STATE_VERSION, lag_boot_id(), now,
-            lag_clock(CLOCK_REALTIME), state->device, state->ifindex);
+    fprintf(file, "niwhopera-lacp %d\nclocks %s %" PRId64 " %" PRId64 "\ndevice %s %" PRIu32 " ", LAG_STATE_VERSION, written->boot, written->of_boot,
+            written->of_wall, state->device, state->ifindex);
     lag_put_octets(file, state->mac, LAG_ADDRESS);
     fprintf(file, " %" PRIu32 "\n", state->next_marker);
     for (size_t i = 0; i < state->count; i++) {
@@ -122,7 +147,7 @@ lag_state_print(FILE *file, const struct lag_state *state)
         fprintf(file, "port %s %" PRIu32 " %u %u %u ", it->name, it->ifindex, it->number, it->priority, it->key);
         lag_put_octets(file, it->mac, LAG_ADDRESS);
         fprintf(file, " %" PRIu64 " %d %d %u %" PRId64 " ", it->carrier_changes, it->carried, it->chosen, it->aggregator,
-                it->heard.is ? now - it->heard.at : -1);
+                it->heard.is ? written->of_boot - it->heard.at : -1);
         if (it->heard.is) {
             lag_put_octets(file, it->heard.frame, NIW_FRAME);
         } else {
@@ -130,35 +155,60 @@ lag_state_print(FILE *file, const struct lag_state *state)
         }
         fputc('\n', file);
     }
-    fputs("end\n", file);
+}
+
+/* The text of a state that is written then, which the caller frees; or NULL where memory is refused. */
+static inline char *
+lag_state_text(const struct lag_state *state, const struct lag_written *written, size_t *length)
+{
+    char *text = NULL;
+    FILE *file = open_memstream(&text, length);
+    bool bad = !file;
+
+    if (file) {
+        lag_state_print(file, state, written);
+        bad = fflush(file) != 0;
+        fprintf(file, "end %" PRIu32 "\n", bad ? 0 : lag_state_sum(text, *length));
+        bad |= ferror(file) != 0;
+        bad |= fclose(file) != 0;
+    }
+    if (bad) {
+        free(text);
+        return NULL;
+    }
+    return text;
 }
 
 /* Writes a state into a new file. Returns 0, or a negative number of errno. A link in the place of the file is not followed. */
 static inline int
 lag_state_write_new(const char *path, const struct lag_state *state)
 {
-    FILE *file;
+    struct lag_written written = { .of_boot = lag_now(), .of_wall = lag_clock(CLOCK_REALTIME) };
+    size_t length = 0, done = 0;
+    char *text;
     int fd, err = 0;
 
+    snprintf(written.boot, sizeof written.boot, "%s", lag_boot_id());
+    text = lag_state_text(state, &written, &length);
+    if (!text) {
+        return -ENOMEM;
+    }
     unlink(path);
     fd = open(path, O_WRONLY | O_CREAT | O_EXCL | O_NOFOLLOW | O_CLOEXEC, 0600);
-    if (fd < 0) {
-        return -errno;
+    err = fd < 0 ? -errno : 0;
+    while (!err && done < length) {
+        ssize_t octets = write(fd, text + done, length - done);
+
+        if (octets > 0) {
+            done += (size_t) octets;
+        } else {
+            err = octets < 0 ? -errno : -EIO;
+        }
     }
-    file = fdopen(fd, "w");
-    if (!file) {
-        err = -errno;
-        close(fd);
-        return err;
-    }
-    errno = 0;
-    lag_state_print(file, state);
-    if (fflush(file) || ferror(file)) {
-        err = errno ? -errno : -EIO;
-    }
-    if (fclose(file) && !err) {
+    if (fd >= 0 && close(fd) && !err) {
         err = -errno;
     }
+    free(text);
     return err;
 }
 
@@ -189,9 +239,9 @@ lag_state_write(const char *path, const struct lag_state *state)
     return err;
 }
 
-/* Reads the line of a port. `since` is for how long its ages have been written, in ms. */
+/* Reads the line of a port; its LACPDU came at a time of the clock of the boot that wrote it. */
 static inline bool
-lag_state_scan_port(const char *line, struct lag_state_port *it, int64_t now, int64_t since)
+lag_state_scan_port(const char *line, struct lag_state_port *it, int64_t written)
 {
     unsigned int number, priority, key, carried, chosen, aggregator;
     char mac[16], frame[2 * NIW_FRAME + 1];
@@ -214,35 +264,25 @@ lag_state_scan_port(const char *line, struct lag_state_port *it, int64_t now, in
         return !strcmp(frame, "-");
     }
     it->heard.is = true;
-    it->heard.at = now - since - age;
+    it->heard.at = written - age;
     return lag_get_octets(frame, it->heard.frame, NIW_FRAME);
 }
 
+/* Reads the values of a text, which ends with a 0 octet, as far as they have places. */
 static inline bool
-lag_state_scan(FILE *file, struct lag_state *state)
+lag_state_scan_lines(const char *text, struct lag_state *state, struct lag_written *written)
 {
-    char line[512], was[64], mac[16];
-    int64_t boot, wall, now = lag_now(), since;
+    char mac[16];
     int version;
 
     memset(state, 0, sizeof *state);
-    if (!fgets(line, sizeof line, file) || sscanf(line, "niwhopera-lacp %9d", &version) != 1 || version != LAG_STATE_VERSION
-        || !fgets(line, sizeof line, file) || sscanf(line, "clocks %63s %18" SCNd64 " %18" SCNd64, was, &boot, &wall) != 3
-        || !fgets(line, sizeof line, file)
-        || sscanf(line, "device %15s %10" SCNu32 " %15s %10" SCNu32, state->device, &state->ifindex, mac, &state->next_marker) != 4
-        || !lag_get_octets(mac, state->mac, LAG_ADDRESS)) {
+    if (sscanf(text, "niwhopera-lacp %9d clocks %63s %18" SCNd64 " %18" SCNd64 " device %15s %10" SCNu32 " %15s %10" SCNu32, &version, written->boot,
+               &written->of_boot, &written->of_wall, state->device, &state->ifindex, mac, &state->next_marker) != 8
+        || version != LAG_STATE_VERSION || !lag_get_octets(mac, state->mac, LAG_ADDRESS)) {
         return false;
     }
-    /* Within one boot its clock is right; the clock on the wall may be set. */
-    since = strcmp(lag_boot_id(), was) || !strcmp(was, "-") ? lag_clock(CLOCK_REALTIME) - wall : now - boot;
-    if (since < 0) {
-        return false;
-    }
-    while (fgets(line, sizeof line, file)) {
-        if (!strcmp(line, "end\n")) {
-            return true;
-        }
-        if (state->count == NIW_MOST_PORTS || !lag_state_scan_port(line, &state->ports[state->count], now, since)) {
+    for (const char *line = strstr(text, "\nport "); line; line = strstr(line, "\nport ")) {
+        if (state->count == NIW_MOST_PORTS || !lag_state_scan_port(++line, &state->ports[state->count], written->of_boot)) {
             return false;
         }
         for (size_t i = 0; i < state->count; i++) {
@@ -252,7 +292,31 @@ lag_state_scan(FILE *file, struct lag_state *state)
         }
         state->count++;
     }
-    return false;
+    return true;
+}
+
+/* Reads a text of so many octets, behind which a 0 octet stands: it is a state if the same is written of what was read. */
+static inline bool
+lag_state_scan(const char *text, size_t length, struct lag_state *state)
+{
+    struct lag_written written;
+    int64_t now = lag_now(), since;
+    size_t again = 0;
+    char *same;
+    bool good;
+
+    if (!lag_state_scan_lines(text, state, &written)) {
+        return false;
+    }
+    same = lag_state_text(state, &written, &again);
+    good = same && again == length && !memcmp(same, text, length);
+    free(same);
+    /* Within one boot its clock is right; the clock on the wall may be set. */
+    since = strcmp(lag_boot_id(), written.boot) || !strcmp(written.boot, "-") ? lag_clock(CLOCK_REALTIME) - written.of_wall : now - written.of_boot;
+    for (size_t i = 0; i < state->count; i++) {
+        state->ports[i].heard.at += state->ports[i].heard.is ? now - since - written.of_boot : 0;
+    }
+    return good && since >= 0;
 }
 
 /* Reads the file. Where it tells nothing, false is the answer and `state` is empty. One on a file system that became read-only tells nothing: who
@@ -260,15 +324,22 @@ lag_state_scan(FILE *file, struct lag_state *state)
 static inline bool
 lag_state_read(const char *path, struct lag_state *state)
 {
-    FILE *file = access(path, W_OK) ? NULL : fopen(path, "re");
-    bool good = file && lag_state_scan(file, state);
+    char *text = malloc(LAG_STATE_MOST + 1);
+    FILE *file = text && !access(path, W_OK) ? fopen(path, "re") : NULL;
+    size_t length = file ? fread(text, 1, LAG_STATE_MOST, file) : 0;
+    bool good = false;
 
+    if (length) {
+        text[length] = '\0';
+        good = lag_state_scan(text, length, state);
+    }
     if (!good) {
         memset(state, 0, sizeof *state);
     }
     if (file) {
         fclose(file);
     }
+    free(text);
     return good;
 }
 

@@ -77,8 +77,8 @@ static struct worth worth(struct lacp *lacp, struct lacp_port *lead)
 	for_each_port(port, lacp) {
 		if (port->lead != lead)
 			continue;
-		/* A held port does not distribute. */
-		it.carries |= lacp->cfg.hold_unselected || distributes(port);
+		/* A held port has no aggregator, and one that stands by does not distribute. */
+		it.carries |= lacp->cfg.hold_unselected || lag_is_ready(&port->view);
 		it.sticky |= port->cfg.sticky;
 		it.most += lacp->cfg.policy == BANDWIDTH ? team_get_port_speed(port->tdport->team_port) : 1;
 	}

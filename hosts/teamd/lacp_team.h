@@ -71,6 +71,7 @@ struct lacp_port {
 	int64_t refused_until;	/* the kernel did not take it into use: the peer is told until then that it does not carry */
 	struct lag_heard heard;
 	struct lag_limit limit;
+	struct lag_wake wake;
 	struct {
 		uint16_t prio;
 		uint16_t key;
@@ -123,13 +124,13 @@ static bool may_carry(const struct lacp_port *port)
 
 static const char *const state_words[] = { "disabled", "current", "expired", "defaulted" };
 
-static const char *state_name(const struct niw_view *view)
+static const char *state_name(const struct lacp_port *port)
 {
-	switch (view->port ? view->receive_state : NIW_RECEIVE_PORT_DISABLED) {
+	switch (port->view.port ? port->view.receive_state : NIW_RECEIVE_PORT_DISABLED) {
 	case NIW_RECEIVE_CURRENT:
 		return state_words[1];
 	case NIW_RECEIVE_EXPIRED:
-		return state_words[2];
+		return state_words[port->wake.woken ? 3 : 2];
 	case NIW_RECEIVE_DEFAULTED:
 		return state_words[3];
 	default:

@@ -62,7 +62,7 @@ static void send_port(struct lacp_port *port)
 {
 	uint8_t frame[NIW_FRAME];
 
-	while (niw_transmit(&port->lacp->end.system, port->number, frame, sizeof(frame)).is)
+	while (lag_end_transmit(&port->lacp->end, port->number, &port->limit, frame, lag_now()).is)
 		teamd_send(port->sock, frame, sizeof(frame), 0);
 }
 
@@ -95,6 +95,9 @@ static void sleep_until_due(struct lacp *lacp)
 		at = lacp->try_at;
 	if (lacp->silent_at > now && lacp->silent_at < at)
 		at = lacp->silent_at;
+	for_each_port(port, lacp)
+		if (port->wake.at && port->wake.at < at)
+			at = port->wake.at;
 	if (lacp->end.system.live)
 		due = lag_end_due(&lacp->end);
 	if (due <= now) /* what was not sent is of a port that leaves */
@@ -106,14 +109,14 @@ static void sleep_until_due(struct lacp *lacp)
 	wake_at(lacp, at);
 }
 
-static void note_view(struct lacp_port *port, const struct niw_view *view)
+static void note_view(struct lacp_port *port, const struct niw_view *view, const char *before)
 {
 	struct niw_view was = port->view;
 	bool had = port->selected, began;
 
-	if (state_name(view) != state_name(&was))
-		teamd_log_info("%s: Changed port state: \"%s\" -> \"%s\"", port->tdport->ifname, state_name(&was), state_name(view));
 	port->view = *view;
+	if (state_name(port) != before)
+		teamd_log_info("%s: Changed port state: \"%s\" -> \"%s\"", port->tdport->ifname, before, state_name(port));
 	if (view->port_status == NIW_PORT_STATUS_OWN_SYSTEM && was.port_status != NIW_PORT_STATUS_OWN_SYSTEM)
 		teamd_log_warn("%s: Port seems to be loopbacked to the same team device.", port->tdport->ifname);
 	/* A partner that falls silent is one until the port runs on defaults. */
@@ -140,20 +143,39 @@ static void hold_ports(struct lacp *lacp)
 	}
 }
 
-/* What each port is now; where memory for a system was refused it is disabled. One that goes on stays as it is until the system has it. */
-static void read_views(struct lacp *lacp)
+/* What each port is now; where memory for a system was refused it is disabled. One that goes on stays as it is until the system has it. Returns whether a port
+ * was woken. */
+static bool read_views(struct lacp *lacp)
 {
 	static const struct niw_view none;
 	struct niw_view views[NIW_MOST_PORTS];
+	bool woken = false;
 
 	if (lacp->end.system.live)
 		lag_end_views(&lacp->end, views);
 	for_each_port(port, lacp) {
 		const struct niw_view *view = lacp->end.system.live ? lag_view_of(views, port->number) : &none;
+		const char *before = state_name(port);
 
-		if (view && !port->resumes)
-			note_view(port, view);
+		if (!view || port->resumes)
+			continue;
+		woken |= view->port && lag_end_wake(&lacp->end, view, &port->wake, !lacp->silent_at, lag_now());
+		note_view(port, view, before);
 	}
+	return woken;
+}
+
+/* Has the library use the aggregator of the group that carries, and of the others none; returns whether that changed. */
+static bool use_group(struct lacp *lacp)
+{
+	uint16_t aggregator = 0;
+
+	if (!lacp->end.system.live)
+		return false;
+	for_each_port(port, lacp)
+		if (port->chosen && !port->resumes && !aggregator)
+			aggregator = port->view.aggregator;
+	return lag_end_use(&lacp->end, aggregator);
 }
 
 static int set_address(struct teamd_context *ctx, struct teamd_port *tdport)
@@ -186,8 +208,13 @@ static int refresh(struct lacp *lacp)
 {
 	int carry = 0, failed = 0, err;
 
-	read_views(lacp);
+	if (read_views(lacp))
+		read_views(lacp);
 	choose(lacp);
+	if (use_group(lacp)) {
+		read_views(lacp);
+		choose(lacp);
+	}
 	for_each_port(port, lacp) {
 		err = set_enabled(port);
 		if (!err)

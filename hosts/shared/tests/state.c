@@ -32,14 +32,14 @@ is_sound(const struct lag_state *state)
 static bool
 scan(const uint8_t *octets, size_t length, struct lag_state *state)
 {
-    FILE *file = length ? fmemopen((void *) (uintptr_t) octets, length, "r") : NULL;
-    bool good = file && lag_state_scan(file, state);
+    char *text = malloc(length + 1);
+    bool good;
 
-    if (file) {
-        fclose(file);
-    }
-    if (!is_sound(state)) {
-        /* Where false is the answer nothing of it is used, but what was read so far is sound as well. */
+    memcpy(text, octets, length);
+    text[length] = '\0';
+    good = lag_state_scan(text, length, state);
+    free(text);
+    if (good && !is_sound(state)) {
         abort();
     }
     return good;
@@ -53,19 +53,27 @@ LLVMFuzzerTestOneInput(const uint8_t *octets, size_t length)
 {
     static struct lag_state state, again;
 
-    memset(&state, 0, sizeof state);
-    if (scan(octets, length, &state)) {
-        char *text = NULL;
-        size_t size = 0;
-        FILE *file = open_memstream(&text, &size);
+    /* The sum is made right: no octets that come by chance have it. */
+    const char *end = memmem(octets, length, "\nend ", 5);
+    size_t lines = end ? (size_t) (end + 1 - (const char *) octets) : length, whole = 0;
+    char *text = NULL;
+    FILE *file = open_memstream(&text, &whole);
 
-        lag_state_print(file, &state);
-        fclose(file);
-        if (!scan((uint8_t *) text, size, &again) || again.count != state.count) {
+    fwrite(octets, 1, lines, file);
+    fprintf(file, "end %" PRIu32 "\n", lag_state_sum((const char *) octets, lines));
+    fclose(file);
+    memset(&state, 0, sizeof state);
+    if (scan((uint8_t *) text, whole, &state)) {
+        struct lag_written written = { .boot = "-", .of_boot = lag_now(), .of_wall = lag_clock(CLOCK_REALTIME) };
+        size_t size = 0;
+        char *other = lag_state_text(&state, &written, &size);
+
+        if (!scan((uint8_t *) other, size, &again) || again.count != state.count) {
             abort();
         }
-        free(text);
+        free(other);
     }
+    free(text);
     return 0;
 }
 #else
@@ -108,7 +116,7 @@ fill(struct lag_state *state)
     }
 }
 
-/* Each octet of a file is changed in turn, and the file is cut at each: nothing is read that is not sound. */
+/* Each octet of a file is changed in turn, and the file is cut at each. Returns how many of these are taken. */
 static int
 spoil(const char *path)
 {
@@ -126,11 +134,109 @@ spoil(const char *path)
         taken += scan(octets, i, &state);
         for (size_t j = 0; j < sizeof other - 1; j++) {
             octets[i] = (uint8_t) other[j];
-            scan(octets, length, &state);
+            taken += octets[i] != was && scan(octets, length, &state);
         }
         octets[i] = was;
     }
     return taken;
+}
+
+/* Lines that are none of the form, with a sum that is right; the first row is one that is. */
+static const struct {
+    const char *what, *text;
+} forms[] = {
+#define HEAD "niwhopera-lacp 2\nclocks - 1 1\n"
+#define DEVICE "device team0 7 020000000000 9\n"
+#define PORT "port eth0 10 1 255 0 020000000001 2 0 0 0 "
+    { "the form", HEAD DEVICE PORT "-1 -\n" },
+    { "a version with letters behind it", "niwhopera-lacp 2x\nclocks - 1 1\n" DEVICE },
+    { "the version before", "niwhopera-lacp 1\nclocks - 1 1\n" DEVICE },
+    { "words behind a line", HEAD "device team0 7 020000000000 9 more words\n" },
+    { "a number below 0 for the next marker", HEAD "device team0 7 020000000000 -5\n" },
+    { "an ifIndex above 32 bits", HEAD "device team0 4294967306 020000000000 9\n" },
+    { "no blank between device and its name", HEAD "device$team0 7 020000000000 9\n" },
+    { "two blanks", HEAD "device  team0 7 020000000000 9\n" },
+    { "a zero before a number", HEAD "device team0 07 020000000000 9\n" },
+    { "an age of -77", HEAD DEVICE PORT "-77 -\n" },
+    { "an age without an LACPDU", HEAD DEVICE PORT "77 -\n" },
+    { "a line between", HEAD DEVICE "more\n" PORT "-1 -\n" },
+    { "no end of a line", HEAD "device team0 7 020000000000 9" },
+};
+
+static char *
+with_sum(const char *lines)
+{
+    char *text = NULL;
+
+    if (asprintf(&text, "%send %" PRIu32 "\n", lines, lag_state_sum(lines, strlen(lines))) < 0) {
+        abort();
+    }
+    return text;
+}
+
+static void
+try_forms(void)
+{
+    static struct lag_state state;
+    char *text = with_sum(forms[0].text), *more = NULL;
+
+    for (size_t i = 0; i < sizeof forms / sizeof *forms; i++) {
+        char *it = with_sum(forms[i].text);
+
+        check(scan((uint8_t *) it, strlen(it), &state) == !i, forms[i].what);
+        free(it);
+    }
+    if (asprintf(&more, "%sport eth0 10 0 0\n", text) < 0) {
+        abort();
+    }
+    check(!scan((uint8_t *) more, strlen(more), &state), "octets behind the end");
+    free(more);
+    free(text);
+}
+
+/* The sum is the one that cksum prints. */
+static void
+try_sum(void)
+{
+    FILE *file = popen("printf 123456789 | cksum; printf 'niwhopera-lacp 2\\n' | cksum; printf '' | cksum", "r");
+    uint32_t sums[3] = { 0 };
+    size_t count = 0;
+
+    while (count < 3 && file && fscanf(file, "%" SCNu32 "%*[^\n]", &sums[count]) == 1) {
+        count++;
+    }
+    if (file) {
+        pclose(file);
+    }
+    /* POSIX names the algorithm; 930766865 is its value of these nine digits. */
+    check(lag_state_sum("123456789", 9) == 930766865, "the sum of nine digits is that of POSIX");
+    check(count == 3 && sums[0] == lag_state_sum("123456789", 9) && sums[1] == lag_state_sum("niwhopera-lacp 2\n", 17) && sums[2] == lag_state_sum("", 0),
+          "the sums are those of the command cksum");
+}
+
+/* As many ports as there may be, with the longest words: the file is read again. */
+static void
+try_most(const char *path)
+{
+    static struct lag_state state, again;
+    struct stat told;
+
+    memset(&state, 0xff, sizeof state);
+    memset(state.device, 'x', sizeof state.device - 1);
+    state.device[sizeof state.device - 1] = '\0';
+    state.count = NIW_MOST_PORTS;
+    for (size_t i = 0; i < NIW_MOST_PORTS; i++) {
+        struct lag_state_port *it = &state.ports[i];
+
+        memcpy(it->name, state.device, sizeof it->name);
+        it->number = (uint16_t) (UINT16_MAX - i);
+        it->aggregator = NIW_MOST_PORTS;
+        it->carried = it->chosen = it->heard.is = true;
+        it->heard.at = lag_now() - INT64_C(100000000000);
+    }
+    check(!lag_state_write(path, &state) && !stat(path, &told) && told.st_size < LAG_STATE_MOST && lag_state_read(path, &again)
+          && again.count == NIW_MOST_PORTS,
+          "64 ports with the longest words are written and read");
 }
 
 /* Begins a file system of these options, with a state; `path` is where that stands. */
@@ -206,7 +312,10 @@ main(int count, char **words)
     check(!memcmp(&again, &state, sizeof state), "each value is as it was");
     check(lag_state_find(&again, "interface-name1", 70002) == &again.ports[1], "a port is found by its name and ifIndex");
     check(!lag_state_find(&again, "interface-name1", 70001), "another ifIndex is none");
-    check(!spoil(path), "no file that is cut is taken, and no octet that is changed makes a strange state");
+    check(!spoil(path), "no file that is cut is taken, and none of which an octet is changed");
+    try_forms();
+    try_sum();
+    try_most(path);
     state.ports[1].number = state.ports[0].number;
     lag_state_write(path, &state);
     check(!lag_state_read(path, &again) && !again.count, "two ports of one number are none");

@@ -42,6 +42,8 @@ is_in_time() { # NAME MS WANTED IS
     took=$((($(date +%s%N) - BEGAN) / 1000000))
     if [ "$3" != "$4" ] && [ $took -ge "$2" ]; then echo "row: inconclusive, the machine took $took ms: $1"; else is "$1" "$3" "$4"; fi
 }
+# Makes the sum of the file anew, of which a word was changed.
+resum() { head -n -1 $F >/run/lines; { cat /run/lines; echo "end $(cksum </run/lines | cut -d' ' -f1)"; } >$F; }
 # Waits until the state is this one, for so many seconds at most; for more of them where teamd is $SLOW times as slow.
 until_state() { last=$(($(date +%s) + $2 * ${SLOW:-1})); until [ "$(state $3)" = "$1" ] || [ "$(date +%s)" -gt $last ]; do sleep 0.1; done; }
 # The key and the port priority that a port of the peer was told.

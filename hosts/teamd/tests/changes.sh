@@ -11,6 +11,17 @@ is "a teamd that follows with -n: both carry with them" "$BOTH 5 7" "$(state) $(
 teamdctl team0 port config update eth1 '{"lacp_prio": 9, "lacp_key": 5}' 2>/dev/null; sleep 2; is "what it is told then reaches the peer" "5 9" "$(told far1)"
 for n in 1 2; do teamdctl team0 port config update eth$n '{}' 2>/dev/null; done; sleep 2; is "and where it is told nothing, what is usual" "0 255, 0 255" "$(told far1), $(told far2)"
 until_state "$BOTH" 10; is "both carry then" "$BOTH" "$(state)"
+# One of three ports gets another key: the two others have nothing to tell, and go on.
+teamdctl team0 port add eth3; all="eth1 current true, eth2 current true, eth3 current true, carrier 1"; until_state "$all" 12 "eth1 eth2 eth3"; sleep 1
+teamdctl team0 port config update eth1 '{"lacp_key": 7}' 2>/dev/null; stopped=0
+for _ in $(seq 15); do [ "$(state eth2 eth3)" = "eth2 current true, eth3 current true, carrier 1" ] || stopped=$((stopped + 1)); sleep 0.1; done
+is "one of three ports gets another key: the others go on" 0 $stopped; teamdctl team0 port config update eth1 '{}' 2>/dev/null; teamdctl team0 port remove eth3; until_state "$BOTH" 12
+# LACPDUs are lost both ways for longer than it takes to run on defaults, and no link goes down: a port on defaults sends each 30 s, and so is woken.
+/mnt/modprobe -d /mnt/modules act_gact
+drop() { tc $1 qdisc add dev $2 clsact; tc $1 filter add dev $2 ingress protocol 0x8809 matchall action drop; }
+for n in 1 2; do drop "" eth$n; drop "-n far" far$n; done
+sleep 10; silent=$(state); for n in 1 2; do tc qdisc del dev eth$n clsact; tc -n far qdisc del dev far$n clsact; done
+until_state "$BOTH" 12; is "links that were silent both ways for 10 s carry again within 12 s" "eth1 defaulted false, eth2 defaulted false, carrier 0; $BOTH" "$silent; $(state)"
 # A manager that configures its ports by teamdctl alone: eth1 comes into the device by ip link, eth2 by teamdctl.
 end; alone() { $T -g -d -N -t team0 "$@" -c '{"device":"team0","runner":{"name":"lacp","fast_rate":true,"tx_hash":["l3","l4"]}}' 2>>/run/log; }
 alone -r; for n in 1 2; do teamdctl team0 port config update eth$n "{\"prio\": 0, \"lacp_prio\": $((6 + n)), \"lacp_key\": 5}" 2>/dev/null; done

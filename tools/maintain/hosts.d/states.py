@@ -32,6 +32,7 @@ def try_program(built: Built, name: str, what: str) -> str:
 
 def try_states(built: Built) -> None:
     try_program(built, "end", "an end that follows another one")
+    try_program(built, "service", "an end in service")
     program = try_program(built, "state", "a state")
     fuzzer, corpus = (f"{built.folder}/{it}" for it in ("fuzz-state", "corpus"))
     made = shutil.which("clang") and subprocess.run(["clang", "-std=gnu11", "-O1", "-DFUZZ", "-fsanitize=fuzzer,address,undefined", "-o", fuzzer, *words_of(built, "state")], capture_output=True).returncode == 0
