@@ -2,7 +2,6 @@
 
 from __future__ import annotations
 
-import inspect
 import json
 import re
 from pathlib import Path
@@ -17,7 +16,7 @@ from conform_frames import FourthUnanswered, NoMarkers, Responds
 from test_conform_kinds import Bridge, JoinsKeys
 from test_conform_right import NoIndividual
 
-from lagconform import causes, command, listing, options, pics
+from lagconform import causes, command
 from lagconform.bench import Bench
 from lagconform.edition import edition
 from lagconform.groups import GROUPS, TESTS
@@ -372,38 +371,6 @@ def test_crashes_of_one_kind_have_one_cause(run, tmp_path: Path, capsys: pytest.
 
 
 # What the page says.
-
-
-def shortened(tests: Sequence[Case]) -> str:
-    """Tests by their names; a group of which all are there by its own."""
-    out = []
-    for group in GROUPS:
-        names = [it.id for it in group.tests if it in tests]
-        out += [f"all {group.name}"] if len(names) == len(group.tests) else names
-    return ", ".join(out)
-
-
-def test_the_page_says_what_each_item_of_a_pics_does() -> None:
-    rows = [f"|`{it}`|{text}|{shortened([one for one in TESTS if it in one.needs and it not in pics.MANDATORY]) or 'none'}|" for it, text in pics.ITEMS.items()]
-    assert not PAGE.exists() or not [it for it in rows if f"{it}\n" not in PAGE.read_text()], rows
-
-
-def test_the_page_says_how_long_a_run_may_take() -> None:
-    def row(name: str, links: int, only: Optional[Sequence[str]] = None) -> str:
-        told = [listing.most(options.selected(only, long, links)) for long in (False, True)]
-        return f"|{name}|{told[0]} min|{told[1]} min|\n"
-
-    rows = [row("one", 1), row("two", 2), row("three or four", 3)]
-    assert not PAGE.exists() or not [it for it in rows if it not in PAGE.read_text()], rows
-    assert not PAGE.exists() or f"{SPARE} s longer than" in " ".join(PAGE.read_text().split())
-
-
-def test_the_page_names_what_tests_use() -> None:
-    if not PAGE.exists():
-        return
-    rows = re.findall(r"^\|`b\.(\w+)\(.*\|`([^`|]+)`\|$", PAGE.read_text(), re.M)
-    assert len(rows) == PAGE.read_text().count("\n|`b.") >= 6
-    assert dict(rows) == {name: inspect.signature(getattr(Bench, name)).return_annotation for name, _ in rows}
 
 
 def test_the_test_of_the_page_runs(run, tmp_path: Path, capsys: pytest.CaptureFixture[str]) -> None:  # type: ignore[no-untyped-def]

@@ -45,7 +45,7 @@ def test_a_right_device_of_long_timeouts_fails_nothing() -> None:
 def test_the_page_has_how_many_faults_there_are() -> None:
     page = Path(__file__).parents[2] / "docs" / "CONFORM.md"
     text = " ".join(page.read_text().split()) if page.exists() else ""
-    assert not text or f"beside [{len(FAULTS)} devices in memory with one fault each](#a-test-of-the-project)" in text
+    assert not text or f"beside {len(FAULTS)} devices in memory with one fault each" in text
     assert len({it.__name__ for it in FAULTS}) == len(FAULTS)
 
 
@@ -54,21 +54,18 @@ def test_each_test_has_a_fault_that_it_finds() -> None:
     assert found == set(BY_NAME)
 
 
-# From which --slack on the tests of a fault do not find it, of those of the page; its largest one hides no other fault.
+# From which --slack on the tests of a fault do not find it, of these; the largest one hides no other fault.
 SLACKS = (0.15, 0.3, 0.5, 0.75, SURE)
 HIDDEN = {"LooksOnceASecond": 0.3, "LateUnderData": 0.3, "NoNtt": 0.5, "SlowClock": 0.75, "ToldWithThePeriod": 0.75, "ReturnsSlowly": SURE}
 
 
 @pytest.mark.parametrize("kind", FAULTS, ids=[it.__name__ for it in FAULTS])
-def test_a_larger_slack_hides_faults_as_the_page_says(kind: Type[Device]) -> None:
+def test_a_larger_slack_hides_these_faults_alone(kind: Type[Device]) -> None:
     from_there_on = HIDDEN.get(kind.__name__, 2 * SURE)
     at = SLACKS.index(min(SURE, from_there_on))
     for slack in SLACKS[at - (kind.__name__ in HIDDEN) : at + 1]:
         found = found_by(kind, [BY_NAME[it] for it in kind.finds.split()], slack)
         assert any(it.verdict == FAIL for it in found) == (slack < from_there_on), (slack, told(found))
-    page = Path(__file__).parents[2] / "docs" / "CONFORM.md"
-    rows = [it for it in (page.read_text() if page.exists() else "").splitlines() if it.startswith(f"|{from_there_on:g} s|")]
-    assert not page.exists() or from_there_on > SURE or f"|{', '.join(kind.finds.split())}|" in "".join(rows)
 
 
 @pytest.mark.parametrize("kind", FAULTS, ids=[it.__name__ for it in FAULTS])

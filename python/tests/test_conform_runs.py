@@ -409,7 +409,7 @@ def test_the_names_of_a_stack_are_its_makers(stack, capsys: pytest.CaptureFixtur
     assert f"\n3 pass, 0 fail{LAST}" in capsys.readouterr().out
     names = {it for it in (*vars(memory.Stack), *memory.Stack.__annotations__) if not it.startswith("__")}
     assert names == {"_lagconform", "data", "link", "links", "now", "send", "start", "stop", "take", "tick", "tick_seconds"}
-    told = PAGE.read_text().partition("The stack is a class `Device`")[2].partition("\n### ")[0] if PAGE.exists() else ""
+    told = PAGE.read_text().partition("write a class `Device`")[2].partition("\n## ")[0] if PAGE.exists() else ""
     assert not told or not [it for it in names if not re.search(rf"`(self\.)?{it}[`(]", told)]
 
 
@@ -528,7 +528,7 @@ def test_the_example_in_python_passes_all(capsys: pytest.CaptureFixture[str]) ->
 
 @pytest.mark.skipif(not PAGE.exists(), reason="no page")
 def test_the_first_fail_is_as_the_page_has_it(tmp_path: Path, monkeypatch: pytest.MonkeyPatch, capsys: pytest.CaptureFixture[str]) -> None:
-    told = re.split(r"^##+ ", PAGE.read_text().partition("### A first fail\n")[2], flags=re.M)[0]
+    told = re.split(r"^##+ ", PAGE.read_text().partition("## What does a fail look like?\n")[2], flags=re.M)[0]
     commands, printed = re.findall(r"(?:^    .*\n)+", told, re.M)
     edit, run = commands.strip().split("\n")
     begin, end = edit.split("'")[1].split("/")[1:3]

@@ -23,7 +23,7 @@ def test_each_program_of_the_page_prints_what_the_page_says() -> None:
     with open(PAGE, encoding="utf-8") as it:
         text = it.read()
     programs = re.findall(r"^```python\n(.*?)^```$", text, re.M | re.S)
-    assert len(programs) == 4
+    assert len(programs) == 2
     for program in programs:
         assert f"It prints `{printed(program)}`" in text
 

@@ -175,10 +175,10 @@ def units() -> list[File]:
 
 
 def manuals(ask: dict[str, str]) -> dict[str, str]:
-    """A man page of each program: from its part of the documents, or from what it says of itself."""
+    """A man page of each program, from what it says of itself."""
     pages = {}
     for name, (section, purpose) in PROGRAMS.items():
-        pages[f"share/man/man{section}/{name}.{section}"] = manual.page(name, section, purpose, version(), ask[name])
+        pages[f"share/man/man{section}/{name}.{section}"] = manual.of_help(name, section, purpose, version(), ask[name])
     for name, (file, _, purpose) in SCRIPTS.items():
         told = documents.renamed(printed(os.path.join(TOOLS, file), "--help", env={**os.environ, "COLUMNS": "120"}))
         pages[f"share/man/man1/{name}.1"] = manual.of_help(name, 1, purpose, version(), told.replace(f"usage: {file}", f"usage: {name}"))

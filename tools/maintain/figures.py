@@ -10,7 +10,7 @@ from typing import Callable, NamedTuple, Sequence
 from repository import TOP, Missing
 
 README, LAGD, ASSURANCE, TROUBLE, CONFORM = "README.md", "docs/LAGD.md", "docs/ASSURANCE.md", "docs/TROUBLE.md", "docs/CONFORM.md"
-MEASURED, CONTRIBUTING, EXAMPLES = "docs/MEASURED.md", "CONTRIBUTING.md", "examples/README.md"
+CONTRIBUTING, EXAMPLES = "CONTRIBUTING.md", "examples/README.md"
 HEADER = "crates/lagffi/include/lag.h"
 ROUNDS, CUT_OFF = (f"crates/lagprogress/specs/{it}.antt" for it in ("Rounds", "CutOff"))
 FEWER, FEWER_IF_PASSIVE, FORGETS = (
@@ -41,6 +41,17 @@ def seconds(found: Matches) -> list[str]:
     return [f"{sum(int(it[1]) for it in found) / 10:g}"]
 
 
+def twice(found: Matches) -> list[str]:
+    """The groups, which are the same wherever the pattern is found, two times."""
+    return 2 * same(found)
+
+
+def others_last(found: Matches) -> list[str]:
+    """Four figures of lagd, Open vSwitch, bonding and teamd, with that of Open vSwitch last."""
+    lagd, switch, *others = same(found)
+    return [lagd, *others, switch]
+
+
 class Copy(NamedTuple):
     """A sentence of a page, with `{}` in the place of each figure, and a pattern that finds them in its sources. White space fits any other."""
 
@@ -52,71 +63,59 @@ class Copy(NamedTuple):
 
 
 PRINTS = "tools/maintain/live.d/examples.py", r'^PRINTS = "both ends distribute after (\d+) ticks of (\d+) ms'
-PROMISED = "|{} rounds, {}.{} s|{} rounds, {}.{} s|"
 UNTIL_UP = ROUNDS, r"^up_if_both_active = (\d+)(\d)$[^=]*^up_if_one_is = (\d+)(\d)$"
 ROUND = r'"round (\d+)"'
-OVER_FIVE = r"\|(5\.[1-9]|[6-9]\.\d)"
-# The ways of lagd beside the driver, and when to choose each.
+# The ways of lagd beside the driver: what stands before the speed of each in the table of its page, and behind it.
+WAYS_RUN = "docs/measured/ways.tsv"
 WAYS = {
-    "`lagd`": "order counts, speed does not", "`offload`": "the same, with few streams", "`fast`": "order and speed count",
-    "`plane=team`": "speed counts, with all queues", "bonding": "a server is in use",
+    "lagd": ("by markers", "order counts, speed does not"), "offload": ("by markers", "the same, with few streams"), "fast": ("by markers", "order and speed count"),
+    "plane=team": ("by a time", "speed counts"), "bonding": ("none", "the server is in use"),
 }  # fmt: skip
 TICK = r"^\d+ tick 1 (\d+) ->"
 # How many tests lagconform has, in a table that its own tests compare.
-CONFORMS = CONFORM, r"^\|three or four\|\d+\|(\d+): all\|$"
+CONFORMS = CONFORM, r"^\|three or four links, --long\|(\d+)\|"
+# The verdicts of a run beside each peer.
+VERDICTS = "docs/measured/conformance.tsv"
 
 
 def rounds(what: str) -> tuple[str, str]:
-    """The rounds of a definition, and the seconds before and behind their point."""
-    return ROUNDS, rf"^{what}_if_both_active = ((\d+)(\d))$[^=]*^{what}_if_one_is = ((\d+)(\d))$"
+    """The seconds of the rounds of a definition, before and behind their point."""
+    return ROUNDS, rf"^{what}_if_both_active = (\d+)(\d)$[^=]*^{what}_if_one_is = (\d+)(\d)$"
 
 
 COPIES: tuple[Copy, ...] = (
-    Copy(ASSURANCE, "in {} to {} minutes on four processors", MEASURED, r"^\|`tools/test`\|(\d+)\|(\d+)\|"),
+    Copy(ASSURANCE, "in {} to {} minutes on four processors", "docs/measured/tools.tsv", r"^tools/test\t(\d+)\t(\d+)$"),
     Copy(README, "prints: both ends distribute after {} ticks of {} ms", *PRINTS),
     Copy(README, "every sound link between them within {}.{} s ({}.{} s if one end is passive)", *UNTIL_UP),
     Copy(README, "The second line runs {} tests on a simulated device", *CONFORMS),
     Copy("docs/USING.md", "It prints `both ends distribute after {} ticks of {} ms`", *PRINTS),
     Copy("docs/USING.md", "{} octets, {} more for each port, {} for each conversation of each aggregator, and {} for each aggregator", HEADER,
          r"\(size_t\)(\d+) \+ \(size_t\)(\d+) \* \(ports\) \+ \(\(size_t\)(\d+) \* \(conversations\) \+ (\d+)\) \* \(aggregators\)"),
-    Copy(MEASURED, "one aggregator of 256 conversations, which take {} octets each", HEADER, r"\(size_t\)(\d+) \* \(conversations\)"),
-    Copy(MEASURED, "Not reached: 5 ns for `offer_conversation` with one conversation in use, which takes {} to {} ns", MEASURED,
-         rf"^\|offer_conversation{OVER_FIVE}(?:\|[\d.]+){{5}}{OVER_FIVE}(?:\|[\d.]+){{2}}\|$"),
-    Copy(LAGD, "It ran [on Linux {}](MEASURED.md#one-run)", MEASURED, r"^This run is of .* on Linux ([\d.]+) and"),
-    Copy(LAGD, "and [{}, {} and {}](MEASURED.md#guests-with-kernels-of-debian).", MEASURED, r"^\|what happens\|([\d.]+)\|([\d.]+)\|([\d.]+) \(virtio"),
-    *(Copy(LAGD, f"|{{}}, {{}}|{{}}; {{}}|{chosen}|", MEASURED, rf"^\|{way}\|([\d.]+)\|([\d.]+)\|(?:[\d.]+\|){{3}}(\d+)\|\d+\|([\d.]+)\|") for way, chosen in WAYS.items()),
+    *(Copy(LAGD, f"|{told}|{{}}|{chosen}|", WAYS_RUN, rf"^{way}\t([\d.]+)\t") for way, (told, chosen) in WAYS.items()),
+    Copy(README, "relative to a bare link|{}; `fast` {}; `plane=team` {}|{}|{}|{}|", WAYS_RUN,
+         "".join(rf"^{way}\t([\d.]+)\t[\s\S]*?" for way in ("lagd", "fast", "plane=team", "bonding", "teamd", "Open vSwitch"))),
+    Copy(README, "tests failed, of 137|{}|{}|{}|{}|", VERDICTS, r"^fail\t(\d+)\t(\d+)\t(\d+)\t(\d+)$", others_last),
     Copy(CONTRIBUTING, "as there are processors and {} GB of memory for each", "tools/lanes.py", r"^EACH = (\d+)_000_000_000$"),
-    Copy(ASSURANCE, "with one conversation, two links, two moves and {} frames,", "tools/maintain/carry.d/models.py", r"^FRAMES, MORE = (\d+), \d+$"),
-    Copy(ASSURANCE, f"of each whole cable know each other{PROMISED}", *rounds("known")),
-    Copy(ASSURANCE, f"distributes at both ends, which name the same group{PROMISED}", *rounds("up")),
-    Copy(ASSURANCE, f"each end is asked in them until nothing is due{PROMISED}", *rounds("freed")),
-    Copy(ASSURANCE, f"a full aggregator whose links all agree{PROMISED}", *rounds("up")),
-    Copy(ASSURANCE, "each link distributes and agrees|{} rounds, {}.{} s|the same|", CUT_OFF, r"IsHealthyAt i l old → ((\d+)(\d)) ≤ n → Plays gives"),
-    Copy(ASSURANCE, "|`must-fail` of four small crates|{}|the prover", "crates/*/must-fail/*.edit", r"\A", count),
-    Copy(ASSURANCE, "|wrong bodies and statements of laws|{}|the prover", "tools/maintain/wrong-bodies.d/*.edits", "^edit:", count),
-    Copy(ASSURANCE, "of laws the definition alone|{}|", "tools/maintain/wrong-definitions.d/*.edits", "^edit:", count),
-    Copy(ASSURANCE, "cut at every length; {},{} frames of up to", "crates/tests_system/src/systems/hostile.rt", r"const FRAMES: u32 = (\d+)_(\d+);"),
+    Copy(ASSURANCE, "|the ends know each other|{}.{} s|{}.{} s|", *rounds("known")),
+    Copy(ASSURANCE, "|each link distributes and agrees|{}.{} s|{}.{} s|", *UNTIL_UP),
+    Copy(ASSURANCE, "until nothing is due|{}.{} s|{}.{} s|", *rounds("freed")),
+    Copy(ASSURANCE, "each link agrees, or stands by|{}.{} s|{}.{} s|", *UNTIL_UP),
+    Copy(ASSURANCE, "with as many aggregators as ports|{}.{} s|{}.{} s|", CUT_OFF, r"IsHealthyAt i l old → (\d+)(\d) ≤ n → Plays gives", twice),
+    Copy(ASSURANCE, "of which the test command tries {};", "crates/*/must-fail/*.edit", r"\A", count),
+    Copy(ASSURANCE, "The prover refuses {} wrong bodies", "tools/maintain/wrong-bodies.d/*.edits", "^edit:", count),
+    Copy(ASSURANCE, "the prover refuse {} wrong definitions", "tools/maintain/wrong-definitions.d/*.edits", "^edit:", count),
+    Copy(ASSURANCE, "cut at every length; {},{} random frames", "crates/tests_system/src/systems/hostile.rt", r"const FRAMES: u32 = (\d+)_(\d+);"),
     Copy("docs/internals/THEOREMS.md", "- *{} | {}* means: after", ROUNDS, r"^up_if_both_active = (\d+)$[^=]*^up_if_one_is = (\d+)$"),
     Copy("docs/internals/THEOREMS.md", "for knowing with one active end they are [more than {}](../../examples/an-end", FORGETS, ROUND),
-    Copy(EXAMPLES, "promise agreement after {} healthy rounds if both ends are active|", FEWER, ROUND),
-    Copy(EXAMPLES, "why none can promise it after {} if one end is active|", FEWER_IF_PASSIVE, ROUND),
-    Copy(EXAMPLES, "promise that the ends know each other after {} then|", FORGETS, ROUND),
-    Copy(TROUBLE, "one or both active|both distribute|{} s: with both", "examples/two-ports-come-up.txt", TICK, seconds),
-    Copy(TROUBLE, "one or both active|both distribute|{} s: with both", "examples/one-end-is-passive.txt", TICK, seconds),
-    Copy(TROUBLE, "(`set_link`)|both distribute|{} s|", "examples/a-cable-is-cut-and-comes-back.txt", rf"{TICK}(?![\s\S]*^\d+ join 1 )", seconds),
-    Copy(TROUBLE, "and the ends ran on defaults meanwhile|both distribute|more than {}.{} s: a port on defaults", FEWER, r'"round (\d+)(\d)"'),
-    Copy(TROUBLE, "|at most {}.{} s, or {}.{} s if one end is active: bounds, not the least", *UNTIL_UP),
+    *(Copy(TROUBLE, "|both links come up, one end or both active|{} s|", f"examples/{it}.txt", TICK, seconds) for it in ("two-ports-come-up", "one-end-is-passive")),
+    Copy(TROUBLE, "|a break that both ends noticed ends|{} s|", "examples/a-cable-is-cut-and-comes-back.txt", rf"{TICK}(?![\s\S]*^\d+ join 1 )", seconds),
+    Copy(TROUBLE, "|a break that nobody noticed ends|more than {}.{} s: meanwhile", FEWER, r'"round (\d+)(\d)"'),
+    Copy(TROUBLE, "|at most {}.{} s ({}.{} s if one end is passive): [a proved bound]", *UNTIL_UP),
     Copy("docs/COMMAND.md", '{"record":"counts","packets":{},"slow":{},"ends":{},"findings":{},"beyond":{}}', "examples/captures/marker-echo.json",
          r'^{"record":"counts","packets":(\d+),"slow":(\d+),"ends":(\d+),"findings":(\d+),"beyond":(\d+)}$'),
-    Copy(CONFORM, "{} tests on 2 links, some 12 min", MEASURED, r"^\|\*pass\*\|(\d+)\|.*\n\|\*fail\*\|0\|.*\n\|\*inconclusive\*\|0\|.*\n\|\*skipped\*\|0\|"),
-    Copy(CONFORM, "{} pass, {} fail, {} inconclusive, {} skipped", MEASURED,
-         r"^\|\*pass\*\|\d+\|(\d+)\|.*\n\|\*fail\*\|\d+\|(\d+)\|.*\n\|\*inconclusive\*\|\d+\|(\d+)\|.*\n\|\*skipped\*\|\d+\|(\d+)\|"),
-    Copy("CHANGELOG.md", "([CONFORM](docs/CONFORM.md)): {} tests, reports as lines", *CONFORMS),
-    Copy("hosts/openvswitch/README.md", "{} of {} were lost with its own LACP, and {} with this one", MEASURED,
-         r"^\|the daemon ends, and another one starts 0\.3 s later\|(\d+) of ([\d,]+) lost\|(\d+):"),
-    Copy("docs/FIRMWARE.md", "of the {} tests of [lagconform](#is-my-build-right)", *CONFORMS),
-    Copy("docs/PROFILE.md", "[{} tests pass and none fails](MEASURED.md#conformance)", MEASURED,
-         r"^\|\*pass\*\|(\d+)\|.*\n\|\*fail\*\|0\|.*\n\|\*inconclusive\*\|0\|.*\n\|\*skipped\*\|0\|"),
+    Copy(CONFORM, "Open vSwitch 3.1 failed {}, bonding {} and teamd {} ([MEASURED]", VERDICTS, r"^fail\t0\t(\d+)\t(\d+)\t(\d+)$"),
+    Copy("CHANGELOG.md", "with {} tests", *CONFORMS),
+    Copy("docs/FIRMWARE.md", "|`lagconform` tests failed|0 of {}|", *CONFORMS),
 )
 
 
@@ -170,7 +169,7 @@ def rules_found(page: str, stored: Callable[[str], str]) -> list[str]:
 def lines_to_read(page: str, read: Callable[[str], str]) -> list[str]:
     """Where a row of ASSURANCE that says what to read of specs/ has another number of lines that are not empty."""
     wrong = []
-    for told, number in re.findall(r"^\|[^|]*\|[^|]*\|(`\w+`: [^|]*)\|([\d,]+)\|$", page, re.M):
+    for told, number in re.findall(r"^\|[^|]*\|(`\w+`: [^|]*)\|([\d,]+)\|$", page, re.M):
         files = [f"crates/{crate}/specs/{name}.antt" for crate, names in re.findall(r"`(\w+)`: ([^;]*)", told) for name in re.findall(r"`(\w+)`", names)]
         lines = sum(bool(line.strip()) for path in files for line in read(path).splitlines())
         if number != f"{lines:,}":

@@ -4,9 +4,8 @@ from __future__ import annotations
 
 import re
 
-from lag_h import OWN_TEXTS, replaced
+from lag_h import replaced
 from library import RENAMED
-from numbering import Variant
 from sources import Export
 
 # The files that name the release, but for what is written by these, and what stands before its number.
@@ -16,7 +15,7 @@ RELEASED = {
     "crates/lagtool/src/tests.rt": '"--version"], &["lagtool ',
     "examples/rust/Cargo.toml": 'name = "two_ends"\nversion = "',
     "examples/rust/Cargo.lock": 'name = "two_ends"\nversion = "',
-    "README.md": "This is ",
+    "README.md": "**Status.** ",
 }
 
 
@@ -45,19 +44,15 @@ def refusals(exports: list[Export]) -> str:
     return "".join(f"|{', '.join(names)}|{told}|\n" for told, names in rows.items())
 
 
-def using(text: str, exports: list[Export], known: dict[str, list[Variant]], defined: dict[str, int]) -> str:
-    """docs/USING.md with what each function refuses, and a row for each refusal. The cells behind the name of one stay with it."""
-    head = r"(\n\|functions\|refusals, in this order\|\n\|---\|---\|\n)"
-    text = replaced(text, head + r"((?:\|[^\n]*\n)*)(\n)", "the table of what functions refuse in docs/USING.md", refusals(exports))
-    rows = {f"`{enum}`": [(it.number, it.name, it.said) for it in known[enum]] for enum in ("WireFault", "DistFault", "SystemFault")}
-    others = {0, *(it.number for it in known["SystemFault"])}
-    own = sorted((defined[name], name, said) for name, said in OWN_TEXTS.items() if defined[name] not in others and "REASON" not in name)
-    rows["`lag.h`"] = own
-    for kind, listed in rows.items():
-        begins = rf"\|{kind}\|1\|[^\n]*\n" if kind != "`lag.h`" else rf"\|\|{own[0][0]}\|`NIW[^\n]*\n"
-        pattern = rf"(\n)({begins}(?:\|\|\d+\|[^\n]*\n)*)(\|`)"
-        was = re.search(pattern, text)
-        cells = dict(re.findall(r"^\|[^|]*\|\d+\|`(\w+)`(\|.*)$", was[2] if was else "", re.M))
-        made = [f"|{number}|`{name}`{cells.get(name, f'|{said}||')}\n" for number, name, said in listed]
-        text = replaced(text, pattern, f"{kind} in docs/USING.md", ("|" if kind == "`lag.h`" else f"|{kind}") + "|".join(made))
-    return text
+def statuses(header: str) -> str:
+    """The rows of the statuses of lag.h: number, name, and the first sentence of what each means."""
+    enum = header.partition("\n/* The statuses.")[2].partition("\n};")[0]
+    rows = re.findall(r"^    (NIW_\w+) = (\d+),?\s+/\* (.*?) \*/", enum, re.M | re.S)
+    first = [(number, name, re.match(r"(?:niw_\w+(?:, niw_\w+)*: )?(.*?)(?:[.:;] |$)", " ".join(told.split()))) for name, number, told in rows]
+    return "".join(f"|{number}|`{name}`|{it[0].rstrip('.:; ')}|\n" for number, name, it in first if it)
+
+
+def using(text: str, exports: list[Export], header: str) -> str:
+    """docs/USING.md with what each function refuses, and a row for each status."""
+    made = f"|functions|refusals, in this order|\n|---|---|\n{refusals(exports)}\n|number|status|means|\n|---:|---|---|\n{statuses(header)}"
+    return replaced(text, r"(<!-- written by: tools/maintain/interface -->\n\n)(.*?)(\n<!-- end -->)", "the part of tools/maintain/interface in docs/USING.md", made)

@@ -1,51 +1,26 @@
-"""What each option of the daemon does: its help text, docs/LAGD.md and the man page that is made of that have the same ones."""
+"""What each option of the daemon does: its help text has what pages have of the tables in C, and so has the man page that is made of it."""
 
 from __future__ import annotations
 
 import os
-import re
 import sys
 
 from checking import check, command
-from repository import TOP, read_text
+from repository import TOP
 
-sys.path.append(os.path.join(TOP, "tools", "dist.d"))
+sys.path[:0] = [os.path.join(TOP, "tools", "dist.d"), os.path.join(TOP, "tools", "maintain")]
 
 import completion
+import page_parts
 import manual
 
 
-# A row of an option, and one of a key of [Bundle], which has the letter of its option behind it.
-OPTION = re.compile(r"^\|`(-\w)`, `(--[\w-]+)(?: [^`]*)?`\|(.+)\|$", re.M)
-KEY = re.compile(r"^\|`([\w-]+)`\|(?:`(-\w)`)?\|(.+)\|[^|]+\|$", re.M)
-
-
-def keys_of(page: str) -> list[tuple[str, str, str]]:
-    """The keys of the table of docs/LAGD.md: each with the letter of its option, or none, and what it does."""
-    return KEY.findall(page.partition("|key of `[Bundle]`|")[2].partition("\n\n")[0])
-
-
-def described(page: str) -> dict[tuple[str, str], str]:
-    """The options of docs/LAGD.md, each with what it does: those of their table, and those that are keys."""
-    rows = [*OPTION.findall(page), *((letter, f"--{key}", told) for key, letter, told in keys_of(page) if letter)]
-    return {(letter, name): told for letter, name, told in rows}
-
-
-def is_told(made: str, name: str, text: str) -> bool:
-    """Whether a man page has an option, by its name or as a key, and what it does, in a table of two columns or of more."""
-    words = manual.inline(text)
-    return manual.escaped(name.removeprefix("--")) in made and (words in made or manual.breakable(words) in made)
-
-
 def check_page(program: str) -> None:
-    page = read_text(os.path.join(TOP, "docs", "LAGD.md"))
-    with open(os.path.join(TOP, "lagd", "settings.c"), encoding="utf-8") as it:
-        keys = re.findall(r'^    \{"([\w-]+)"', it.read().partition(" BUNDLE_KEYS[] = {")[2].partition("\n};")[0], re.M)
     told = command(program, "--help").stdout
-    options, rows = {tuple(names) for names, _ in completion.options(told)}, described(page)
-    check(len(options) > 15 and options == rows.keys(), f"docs/LAGD.md has the {len(options)} options of --help", options ^ rows.keys())
-    given = [key for key, _, _ in keys_of(page)]
-    check(len(keys) > 10 and sorted(given) == sorted(keys), f"and the {len(keys)} keys of [Bundle]", set(given) ^ set(keys))
-    made = manual.page("lagd", 8, "daemon", "0", told)
-    lost = [name for (_, name), text in rows.items() if not is_told(made, name, text)]
-    check(not lost, "the man page says of each what it does", lost)
+    options = {tuple(names) for names, _ in completion.options(told)}
+    keys = {(f"-{it.letter}", f"--{it.name}"): it.means for it in page_parts.keys() if it.letter}
+    lost = [name for (letter, name), means in keys.items() if (letter, name) not in options or means and means not in told]
+    check(len(options) > 15 and len(keys) > 10 and not lost, f"the {len(options)} options of --help are those of its tables", lost)
+    page = manual.of_help("lagd", 8, "daemon", "0", told)
+    lost = [name for names in options for name in names if manual.escaped(name) not in page]
+    check(not lost, "the man page has each of them", lost)

@@ -54,6 +54,6 @@ def test_a_capture_has_the_rules_that_are_stored(rules: str, wrong: int) -> None
 
 def test_a_page_has_the_lines_of_what_is_to_be_read() -> None:
     texts = {"crates/low/specs/A.antt": "a\n\n b\n", "crates/low/specs/B.antt": "c\n", "crates/high/specs/C.antt": "d\n"}
-    row = "|2, 5|order|`low`: `A`, `B`; `high`: `C`|{}|\n"
+    row = "|2, 5|`low`: `A`, `B`; `high`: `C`|{}|\n"
     assert figures.lines_to_read(row.format(4), texts.__getitem__) == []
     assert len(figures.lines_to_read(row.format(5), texts.__getitem__)) == 1

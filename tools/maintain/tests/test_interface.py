@@ -193,16 +193,13 @@ def test_two_names_of_one_number_and_a_missing_one_are_refused(monkeypatch: pyte
         lag_h.enumerators("SystemFault", KNOWN, body)
 
 
-def test_a_refusal_keeps_its_cells_and_a_new_one_says_its_line(monkeypatch: pytest.MonkeyPatch) -> None:
-    monkeypatch.setattr(elsewhere, "OWN_TEXTS", {"NIW_NULL": "a pointer is null"})
-    wire, shut = [numbering.Variant("Short", 1, "short.", None)], "||3|`BridgeShut`|shut, by hand|`go`|\n"
-    begins = "\n|functions|refusals, in this order|\n|---|---|\n|old||\n\n"
-    text = f"{begins}|`WireFault`|1|`Short`|a|b|\n|`DistFault`|1|`Short`|c||\n|`SystemFault`|1|`NoRoad`|d||\n{shut}"
-    behind = "|`lag.h`|1 to 4|\n||5|`NIW_NULL`|by hand||\n|`More`|\n"
-    made = elsewhere.using(text + behind, [TELL, TICK], {"WireFault": wire, "DistFault": wire, "SystemFault": KNOWN}, {"NIW_NULL": 5})
-    rows = "|`SystemFault`|1|`NoRoad`|d||\n||2|`BridgeShut`|shut, by hand|`go`|\n||4|`Other`|this is wrong.||\n"
+def test_the_page_has_what_functions_refuse_and_what_each_status_means() -> None:
+    header = "\n/* The statuses. 1 is one. */\nenum {\n    NIW_OK = 0,\n    NIW_SHUT = 3, /* niw_go: the bridge is shut: wait,\n        or go back */\n};\nenum { NIW_A = 1 };\n"
+    text = "a\n<!-- written by: tools/maintain/interface -->\n\n|old|\n\n<!-- end -->\nb\n"
+    made = elsewhere.using(text, [TELL, TICK], header)
     refuses = "|`niw_tell`|`NIW_BUFFER`, `NIW_NO_SYSTEM`, `NIW_NO_PORT`|\n|`niw_tick`|`NIW_NO_SYSTEM`|\n"
-    assert made == text.replace("|old||\n", refuses)[: -len(f"|`SystemFault`|1|`NoRoad`|d||\n{shut}")] + rows + behind
+    tables = f"|functions|refusals, in this order|\n|---|---|\n{refuses}\n|number|status|means|\n|---:|---|---|\n|3|`NIW_SHUT`|niw_go: the bridge is shut|\n"
+    assert made == text.replace("|old|\n", tables) and elsewhere.using(made, [TELL, TICK], header) == made
 
 
 def test_a_symbol_keeps_its_version_and_a_new_one_has_that_of_the_release(monkeypatch: pytest.MonkeyPatch) -> None:

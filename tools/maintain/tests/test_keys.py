@@ -6,6 +6,8 @@ import re
 
 import loading
 
+parts = loading.module("", "page_parts")
+
 
 def table(file: str, name: str) -> str:
     """The rows of a table in C."""
@@ -23,7 +25,11 @@ def test_letters_and_names_of_options_and_keys_stand_once() -> None:
         assert sorted(words) == sorted(set(words))
 
 
-def test_docs_name_the_keys_of_a_bundle_that_a_reload_changes() -> None:
+def test_the_page_has_each_key_and_whether_a_reload_changes_it() -> None:
     rows = re.findall(r"^    \{\"([\w-]+)\", (.*?)\},$", table("settings.c", "BUNDLE_KEYS"), re.M | re.S)
-    told = re.search(r"^What ports have of their own .*? change at once", loading.text_of("docs/LAGD.md"), re.M | re.S)
-    assert told and set(re.findall(r"`([\w-]+)`", told[0])) == {name for name, row in rows if ".restart" not in row} - {"key", "port-priority"}
+    found = parts.keys()
+    assert [it.name for it in found] == [name for name, _ in rows] and {it.name for it in found if it.is_reloaded} == {name for name, row in rows if ".restart" not in row}
+    usual = {it.name: it.usual for it in found}
+    wanted = {"key": "needed", "port-priority": "32768", "timeout": "short", "min-links": "1", "select": "count", "revert": "no", "flight": "500", "carry": ""}
+    assert {it: usual[it] for it in wanted} == wanted
+    assert {it.name: it.values for it in found}["hash"] == "layer2, layer2+3, layer3+4, encap3+4, vlan+srcmac"

@@ -21,25 +21,6 @@ def test_rows_have_as_many_cells_as_their_head() -> None:
 
 
 @pytest.mark.parametrize(
-    ("rows", "found"),
-    [
-        ("|1|too late (6.4.13)|x|\n|2|a tag (6.4.2.2), or two|y|", []),
-        ("|1|too late (6.4.13)|x|", ["''"]),
-        ("|1|too late (6.4.12)|x|\n|2|a tag (6.4.2.2)|y|", ["'|1|too late (6.4.12)|x|'"]),
-        ("|1|too late (6.4.13)|x|\n|2|a tag (6.4.2.2)|y|\n|3|old (6.4.4)|z|", ["'|3|old (6.4.4)|z|'"]),
-    ],
-)
-def test_each_rule_of_findings_has_a_row(rows: str, found: list[str]) -> None:
-    rules = "".join(
-        f'RuleRow {{\n    number: {number},\n    name: "{name}",\n    clause: "{clause}",\n}}'
-        for number, name, clause in [(1, "too late", "6.4.13"), (2, "a tag", "6.4.2.2")]
-    )
-    page = f"|other|\n|---|\n|7|\n\n|rule|name|\n|---|---|---|\n{rows}\n\nbehind\n"
-    said = pages.unlike(rules, page)
-    assert [it.partition(" findings ")[2].partition(", and not ")[0] for it in said] == found
-
-
-@pytest.mark.parametrize(
     ("text", "wanted", "found"),
     [
         ("a\nb 1\n", "a\nb 1\n", []),
@@ -71,22 +52,6 @@ def test_a_page_has_a_row_for_each_crate_but_those_of_tests(monkeypatch: pytest.
     monkeypatch.setattr(purposes, "purpose", lambda crate: f"{crate} | c.")
     text = f"before\n\n{purposes.HEAD}| `gone` | x |\n\n| behind |\n"
     assert purposes.with_table(text) == f"before\n\n{purposes.HEAD}|`a`|a \\| c.|\n|`b`|b \\| c.|\n\n| behind |\n"
-
-
-def test_a_table_of_a_man_page_has_cells() -> None:
-    rows = ["| a | b |", "|---|---|", "| x \\| y | z |", "| only |"]
-    assert manual.cells_of(rows) == [["a", "b"], ["x | y", "z"], ["only", ""]]
-
-
-def test_the_room_of_a_table_goes_to_the_longest_cells() -> None:
-    assert manual.widths([["a", "bb"], ["ccc dd", "e"]]) == [65, 2]
-    assert manual.widths([["abc"], ["de"]]) == [3]
-
-
-def test_lines_are_blocks_of_a_kind() -> None:
-    found = manual.blocks(["# A", "", "one", "two", "- x", "  y", "| a |", "    code"])
-    assert [kind for kind, _ in found if kind != "blank"] == ["heading", "text", "item", "table", "code"]
-    assert ["one", "two"] in [lines for _, lines in found] and ["- x", "  y"] in [lines for _, lines in found]
 
 
 def test_a_line_of_roff_is_no_request() -> None:
