@@ -194,7 +194,7 @@ fn play(alloc: Global) -> Result<Option<(u16, Story)>, SystemFault> {
     Ok(Some((ticks, story)))
 }
 
-fn main(rt: HostRuntime) -> ExitCode {
+pub fn main(rt: HostRuntime) -> ExitCode {
     let Ok(Some((ticks, story))) = play(rt.alloc()) else {
         return ExitCode::FAILURE;
     };

@@ -303,7 +303,7 @@ fn words_of(rt: &HostRuntime) -> io::Result<Vec<String>> {
 }
 
 /// Runs the command line of the program.
-fn main(rt: HostRuntime) -> ExitCode {
+pub fn main(rt: HostRuntime) -> ExitCode {
     match words_of(&rt) {
         Ok(words) => status(&rt, words.as_slice()),
         Err(error) if error.kind() == io::ErrorKind::OutOfMemory => could_not_do(
