@@ -1,0 +1,10 @@
+mod Octets
+mod Firing
+mod Fitting
+mod Tables
+mod Settles
+pub mod Changing
+mod Receiving
+mod Sending
+mod Offering
+pub mod Each
