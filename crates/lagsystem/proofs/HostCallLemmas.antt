@@ -53,7 +53,7 @@ good_alone : (n now : ℕ) (before : List ℕ) (old new : SystemState) → Table
     → GoodIn n now before new.system_ports
 good_alone n now before old new e g = subst (GoodIn n now before) (sym (ap (λ (s : SystemState). s.system_ports) e)) g
 
-good_host : (gives : ℕ → ℕ → ℕ → Type 0) (n now : ℕ) (before : List ℕ) (old : SystemState) (call : HostCall) (answer : HostReply)
+pub good_host : (gives : ℕ → ℕ → ℕ → Type 0) (n now : ℕ) (before : List ℕ) (old : SystemState) (call : HostCall) (answer : HostReply)
     (new : SystemState) → HostPromise gives old call answer new → GoodIn n now before old.system_ports
     → GoodIn n (tick_after_host call now) (sends_after_host n now call answer before) new.system_ports
 good_host gives n now before old (host.Call call) (told.Call answer) new h g =

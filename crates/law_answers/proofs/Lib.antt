@@ -1,5 +1,5 @@
 mod Octets
-mod Firing
+pub mod Firing
 mod Fitting
 mod Tables
 mod Settles

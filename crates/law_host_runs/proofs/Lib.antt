@@ -1,0 +1,2 @@
+mod Sending
+pub mod Doings
