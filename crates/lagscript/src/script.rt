@@ -161,14 +161,22 @@ fn systems_of(alloc: Global, top: &Table) -> Result<[Config; 2], ScriptFault>
 fn ends_of(alloc: Global, cables: &[CablePlan]) -> Result<Vec<(u16, u16)>, AllocError>
     ensures { IfOk result (λ ends. ends.items ≡ ends_of cables.now) }
 {
-    cables.iter().map(|cable| cable.ends).collect(alloc)
+    let mut ends = Vec::with_capacity(alloc, cables.len())?;
+    for cable in cables {
+        ends.push(cable.ends)?;
+    }
+    Ok(ends)
 }
 
 /// The limit of each of these cables.
 fn limits_of(alloc: Global, cables: &[CablePlan]) -> Result<Vec<Option<u16>>, AllocError>
     ensures { IfOk result (λ limits. limits.items ≡ limits_of cables.now) }
 {
-    cables.iter().map(|cable| cable.limit).collect(alloc)
+    let mut limits = Vec::with_capacity(alloc, cables.len())?;
+    for cable in cables {
+        limits.push(cable.limit)?;
+    }
+    Ok(limits)
 }
 
 // promise: a text has a plan or a first fault, by one function of its document over the grammar that `toml` states. Refused memory aside,

@@ -298,7 +298,10 @@ fn status<R: Print + Eprint + Files + Input + Clock + AllocGlobal>(
 
 /// The words of the command line.
 fn words_of(rt: &HostRuntime) -> io::Result<Vec<String>> {
-    let words = env::args(rt)?.collect(rt.alloc())?;
+    let mut words = Vec::new(rt.alloc());
+    for word in env::args(rt)? {
+        words.push(word)?;
+    }
     Ok(words)
 }
 

@@ -10,7 +10,11 @@ use std::alloc::{AllocError, Global};
 pub fn words_of<'a>(alloc: Global, text: &'a str) -> Result<Vec<&'a str>, AllocError>
     ensures { IfOk result (λ words. map (λ w. w.now) words.items ≡ words_of text.now) }
 {
-    text.split(' ').collect(alloc)
+    let mut words = Vec::new(alloc);
+    for word in text.split(' ') {
+        words.push(word)?;
+    }
+    Ok(words)
 }
 
 // promise: decimal digits have their value up to 65,535 or 4,294,967,295, with leading zeros; any other word has none
