@@ -4,3 +4,4 @@ pub mod Rest
 pub mod Choices
 pub mod Windows
 mod OneRow
+mod Modes

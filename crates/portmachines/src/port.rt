@@ -5,7 +5,7 @@ ghost use Rattle.portmachines.specs.Periodic.{RunsPeriodic, periodic_rows};
 ghost use Rattle.portmachines.specs.Mux.{mux_rows, same_mux_state};
 ghost use Rattle.portmachines.specs.Transmit.{actor_state, count_down, is_due, pdu_of, after_sending};
 ghost use Rattle.portmachines.specs.Start.{Starts, before_start};
-ghost use Rattle.portmachines.specs.Calls.{OneEffect, with_mode};
+ghost use Rattle.portmachines.specs.Calls.{ModeExpiresNone, OneEffect, with_mode};
 
 use crate::machines::Machines;
 use crate::mux::MuxState;
@@ -128,7 +128,8 @@ impl Port {
         self.machines.run_periodic();
     }
 
-    // promise: `select` writes Selected, `set_mode` activity, timeout and NTT; nothing else
+    // promise: `select` writes Selected, `set_mode` activity, timeout, NTT, and current_while where Long Timeout follows Short Timeout in
+    //    CURRENT; nothing else
     // contract: `Port::select`, `set_mode`
     // promise: the receive machine is at rest between calls
     // contract: the invariant of `Port`
@@ -149,8 +150,9 @@ impl Port {
     }
 
     /// Sets LACP_Activity, false for a passive port, and LACP_Timeout, true for Short Timeout. NTT becomes true if one of them
-    /// was another. Nothing else changes: current_while goes on, and starts with the other time at the next LACPDU (6.4.2.3,
-    /// 6.4.7; profile).
+    /// was another. In CURRENT current_while starts with 900 ticks if Long Timeout follows Short Timeout: the partner, which is
+    /// told it only now, may send the next LACPDU a slow period later. Else it goes on, and starts with the other time at the
+    /// next LACPDU. Nothing else changes (6.4.2.3, 6.4.7, 6.4.12; profile).
     pub fn set_mode(&mut self, active: bool, short: bool)
         ensures { self.new ≡ with_mode active short self.old }
     {
@@ -158,7 +160,7 @@ impl Port {
             self.machines.ntt = true;
         }
         self.machines.active = active;
-        self.machines.short = short;
+        self.machines.set_timeout(short);
     }
 
     // promise: an LACPDU is sent exactly if NTT is set and fewer than three ages are kept; it has the port's party and state, the recorded
@@ -318,4 +320,13 @@ pub fn one_row_is_enabled_at_most()
     ensures mux { (ready : Bool) → OneEnabledAtMost (λ p. true) (mux_rows ready) }
     ensures periodic { OneEnabledAtMost (λ p. true) periodic_rows }
     ensures receive { OneEnabledAtMost (λ p. p.enabled) receive_rows }
+{}
+
+// promise: no port expires for another LACP_Timeout: current_while has no fewer ticks, and 900 where Long Timeout follows Short Timeout in
+//    CURRENT
+// contract: `a_mode_expires_no_port` (`ModeExpiresNone`)
+/// No port expires because another LACP_Timeout is set: one in CURRENT that turns to Long Timeout stays there for 899 ticks without
+/// an LACPDU (6.4.12; profile).
+pub fn a_mode_expires_no_port()
+    ensures { ModeExpiresNone }
 {}

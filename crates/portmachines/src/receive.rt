@@ -16,6 +16,7 @@ ghost use Rattle.portmachines.specs.Receive.{
   partner_is_up_to_date,
 };
 ghost use Rattle.portmachines.specs.RowsToFire.{receive_rows_to_fire};
+ghost use Rattle.portmachines.specs.Calls.{current_while_with};
 
 use crate::machines::Machines;
 use lagtypes::{Choice, Party, State, StateBits};
@@ -60,6 +61,16 @@ impl Machines {
             _ => return false,
         }
         true
+    }
+
+    /// Sets LACP_Timeout, and starts current_while with the long time where Long Timeout follows Short Timeout in CURRENT.
+    pub(crate) fn set_timeout(&mut self, short: bool)
+        ensures { self.new ≡ record self.old { short = short; current_while = current_while_with short self.old } }
+    {
+        if self.receive == ReceiveState::Current && self.short && !short {
+            self.current_while = LONG_TIMEOUT_TIME;
+        }
+        self.short = short;
     }
 
     /// Fires receive rows until none is enabled.
