@@ -149,6 +149,15 @@ joined_takes who t w l v p q same h a = elim h [
   | inr r ↦ subst (Joined who t w) (sym r.1) a
 ]
 
+-- another mode
+lasts_moded : (t n : ℕ) (r : ReceiveState) (b : Bool) → t ≤ 30 → Lasts t r n → Lasts t r (if same_receive_state Current r && b then 900 else n)
+lasts_moded t n Current true l a = omega (arith, l)
+lasts_moded t n Current false l a = a
+lasts_moded t n Expired b l a = a
+lasts_moded t n Defaulted b l a = a
+lasts_moded t n Initialize b l a = a
+lasts_moded t n PortDisabled b l a = a
+
 -- of either kind of port
 
 abbrev Kind : Key → ℕ → ℕ → Option Party → Machines → Type 0
@@ -230,16 +239,22 @@ module _ (key : Key) (hears : ℕ → Option Party) (n : ℕ) where
       kind_sent (Some who) p a = a
   others_called t w l call answer u none = tt
 
-  others_set : (t w : ℕ) (setting : Setting) → SetsNoneFree hears n setting → KeptBySetting (Others t w) setting
-  others_set t w (Setting.Hold_port m held) u = λ p a other.
+  others_set : (t w : ℕ) → t ≤ 30 → (setting : Setting) → SetsNoneFree hears n setting → KeptBySetting (Others t w) setting
+  others_set t w l (Setting.Hold_port m held) u = λ p a other.
       subst (λ o. Kind key t w o (record p { choice = Unselected })) (sym u.1) (subst (λ o. Kind key t w o p) u.1 (a other))
-  others_set t w (Setting.Set_mode m active short) u = λ p a other. kind_moded (hears m) p (a other)
+  others_set t w l (Setting.Set_mode m active short) u = λ p a other. kind_moded (hears m) p (a other)
     where
       kind_moded : (o : Option Party) (p : Machines) → Kind key t w o p → Kind key t w o (with_mode active short p)
       kind_moded None p a = a
-      kind_moded (Some who) p a = a
-  others_set t w (Setting.Set_max_delay max_delay) u = tt
-  others_set t w (Setting.Set_max_links max_links) u = λ m p down a other. kind_freed (hears m) p down (a other)
+      kind_moded (Some who) p a = (
+        a.0,
+        elim a.1 [
+          | inl down ↦ inl down
+          | inr s ↦ inr (s.0, lasts_moded t p.current_while p.receive (p.short && not short) l s.1, s.2)
+        ],
+      )
+  others_set t w l (Setting.Set_max_delay max_delay) u = tt
+  others_set t w l (Setting.Set_max_links max_links) u = λ m p down a other. kind_freed (hears m) p down (a other)
     where
       kind_freed : (o : Option Party) (p : Machines) → p.enabled ≡ false → Kind key t w o p → Kind key t w o (record p { choice = Unselected })
       kind_freed None p down a = a
@@ -299,8 +314,9 @@ module _ (key : Key) (hears : ℕ → Option Party) (n : ℕ) where
     abbrev Sets : Setting → Type 0
     Sets = SetsNoneFree hears n
 
-    aside : (t w : ℕ) (old new : SystemState) → Asides Sets old new → OfEach (Others t w) old.system_ports → OfEach (Others t w) new.system_ports
-    aside t w old new h a = asides_each Sets (Others t w) (others_settle t w) (others_set t w) old new h a
+    aside : (t w : ℕ) → t ≤ 30 → (old new : SystemState) → Asides Sets old new → OfEach (Others t w) old.system_ports
+        → OfEach (Others t w) new.system_ports
+    aside t w l old new h a = asides_each Sets (Others t w) (others_settle t w) (others_set t w l) old new h a
 
     set_less : (setting : Setting) → Sets setting → LeavesPort n setting
     set_less (Setting.Hold_port m held) u = u.0
@@ -334,16 +350,16 @@ module _ (key : Key) (hears : ℕ → Option Party) (n : ℕ) where
     none_run : (ticked : Bool) (t : ℕ) (old new : SystemState) (calls : List Call) (replies : List Reply) (states : List SystemState) → t ≤ 30
         → tick_count calls ≤ t → key_of old.keys agg.0 ≡ Some key → OfEach (Others t (most_left ticked)) old.system_ports
         → Runs Sets gives old calls replies states new → EachCall (LetsNoneJoin hears n) calls replies → OnceTicked (NoneBegins agg n) ticked calls states new
-    none_run ticked t old new [] [] [] l c k a r u = none_at ticked t old new k r (aside t (most_left ticked) old new r a)
+    none_run ticked t old new [] [] [] l c k a r u = none_at ticked t old new k r (aside t (most_left ticked) l old new r a)
     none_run ticked t old new (Tick ∷ calls) (answer ∷ answers) (before ∷ states) l c k a r u =
-        let b = aside t (most_left ticked) old before r.1 a in (
+        let b = aside t (most_left ticked) l old before r.1 a in (
           none_at ticked t old before k r.1 b,
           none_run true (t - 1) r.0 new calls answers states (omega (arith, l)) (omega (arith, c))
               (key_after Sets key agg gives old before r.0 Tick answer r.1 r.2 k)
               (tick_keeps t (most_left ticked) 19 (omega (arith, c)) (most_before ticked) before r.0 answer r.2 b) r.3 u.1,
         )
     none_run ticked t old new (call ∷ calls) (answer ∷ answers) (before ∷ states) l c k a r u =
-        let b = aside t (most_left ticked) old before r.1 a in (
+        let b = aside t (most_left ticked) l old before r.1 a in (
           none_at ticked t old before k r.1 b,
           none_run ticked t r.0 new calls answers states l c (key_after Sets key agg gives old before r.0 call answer r.1 r.2 k)
               (call_keeps t (most_left ticked) l before r.0 call answer u.0 (λ e. cc) r.2 b) r.3 u.1,

@@ -150,7 +150,8 @@ const OTHER_MODES: [Row<'static>; 16] = [
     Row::Sends(1, Side::Of(1, 1, 1, 0x06), Side::Of(2, 1, 1, 0x0d)),
     Row::Mode(1, false, false, Ok(())),
     Row::Sends(1, Side::Of(1, 1, 1, 0x04), Side::Of(2, 1, 1, 0x0d)),
-    Row::Timers(1, 30, 20, false),
+    // the whole of the long time: the partner is told only now
+    Row::Timers(1, 900, 20, false),
     Row::Joins(2, &[1]),
     Row::Timers(1, 900, 20, true),
     // a restart goes back to the configured mode
