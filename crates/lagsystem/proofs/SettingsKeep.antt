@@ -9,6 +9,7 @@ use Rattle.lagsystem.proofs.Common.{OccupantsAgree, WithinLimit, LimitsLinks, On
 use Rattle.lagsystem.proofs.Common.{ages_at, in_mode, is_crowded, is_held_so, is_in_mode, is_over, limit_refusal, max_delay_after, max_links_after}
 use Rattle.lagsystem.proofs.Common.{members_up, with_held, PortChangesBy, PortsChangeBy, Settling, HeldUnselected, IsSound, held_apart, SystemState}
 use Rattle.lagsystem.proofs.Common.{machines_of, port_index, port_numbers, with_system_ports, with_table, views}
+use Rattle.portmachines.specs.Calls.{with_mode}
 use Rattle.lagsystem.proofs.AgesKept.{ages_in, ages_of, ages_set, few_by, same_ages, settling_ages, zip_ages}
 use Rattle.lagsystem.proofs.Choose.{Fits}
 use Rattle.lagsystem.proofs.FirstView.{configured_setup}
@@ -17,7 +18,7 @@ use Rattle.lagsystem.proofs.Keeps.{numbers_set, settling_keeps, settling_parts, 
 use Rattle.lagsystem.proofs.Limiting.{count, counted, set_fewer, within_fewer}
 use Rattle.lagsystem.proofs.Lists.{AllZip-weaker}
 use Rattle.lagsystem.proofs.OccupantSteps.{settling_placed}
-use Rattle.lagsystem.proofs.Occupying.{EachStays, LeavesOrStays, set_stays, stay_agrees, zip_stay}
+use Rattle.lagsystem.proofs.Occupying.{EachStays, LeavesOrStays, stays, set_stays, stay_agrees, zip_stay}
 use Rattle.lagsystem.proofs.OfPort.{PortMoves, SlotMoves, all_slots_move, port_stays, slot_moves}
 use Rattle.lagsystem.proofs.OnPorts.{leaves_carried}
 use Rattle.lagsystem.proofs.Quieting.{settling_none, settling_quiet}
@@ -100,7 +101,7 @@ settles_sound old mid new s r h = let k = settling_keeps mid new h in
 pub record Mild (old : SystemState) (x y : SystemPort) : Type 0 where
   pub number : y.number ≡ x.number
   pub leaves : LeavesOrStays x.port y.port
-  pub awake : none_enabled receive_rows y.port ≡ none_enabled receive_rows x.port
+  pub awake : none_enabled receive_rows x.port ≡ true → none_enabled receive_rows y.port ≡ true
   pub ages : y.port.ages ≡ x.port.ages
   pub apart : held_apart x ≡ true → held_apart y ≡ true
   pub moves : PortMoves (model_setup old) ModelCall.Tick x.number (model_port_of x) [] (model_port_of y)
@@ -112,7 +113,7 @@ set_readies old i x y s e m = let l = old.system_ports in record {
   same = numbers_set l i x y e m.number;
   accepted = s.ports.accepted;
   awake = all-set (λ z. none_enabled receive_rows z.port ≡ true) l i y s.rested.0
-      (m.awake ∙ all-get (λ z. none_enabled receive_rows z.port ≡ true) l i x e s.rested.0);
+      (m.awake (all-get (λ z. none_enabled receive_rows z.port ≡ true) l i x e s.rested.0));
   stay = set_stays l i x y e m.leaves;
   limited = within_fewer old.max_links l (slice_set l i y) (set_fewer l i x y e m.leaves) s.limited;
   ages = ages_set l i x y e m.ages;
@@ -149,15 +150,25 @@ holding_mild : (old : SystemState) (held : Bool) (x : SystemPort) → Mild old x
 holding_mild old held x = record {
   number = refl;
   leaves = held_leaves held x.port;
-  awake = refl;
+  awake = λ h. h;
   ages = refl;
   apart = λ h. held_is_apart held x.port.choice;
   moves = held_moves old x.number held x.port;
 }
 
 -- a port with another LACP_Activity or LACP_Timeout
+mode_awake : (active short : Bool) (p : Machines) → none_enabled receive_rows p ≡ true → none_enabled receive_rows (with_mode active short p) ≡ true
+mode_awake active short p h = grind (arith, nat_tests)
+
 mode_mild : (old : SystemState) (active short : Bool) (x : SystemPort) → Mild old x (in_mode active short x)
-mode_mild old active short x = grind (arith, nat_tests)
+mode_mild old active short x = record {
+  number = refl;
+  leaves = stays x.port;
+  awake = mode_awake active short x.port;
+  ages = refl;
+  apart = λ h. h;
+  moves = port_stays (model_setup old) ModelCall.Tick x.number (model_port x.port) (model_port x.port) refl;
+}
 
 -- the limit of links
 
