@@ -8,3 +8,4 @@ mod Receiving
 mod Sending
 mod Offering
 pub mod Each
+pub mod SettingAnswers

@@ -1,14 +1,16 @@
 -- Each call has an answer: no law over calls speaks of nothing.
-use Rattle.std.specs.Prelude.{◌≡◌, ◌<◌, ◌≤◌, ◌^◌, ℕ, List, None}
+use Rattle.std.specs.Prelude.{◌≡◌, ◌<◌, ◌≤◌, ◌^◌, ℕ, List, None, Result}
 use Rattle.std.specs.List.{AllByRecursion}
 use Rattle.lagsystem.specs.declared.config.Config.{Config}
 use Rattle.lagsystem.specs.declared.drive.Reply.{Reply}
+use Rattle.lagsystem.specs.declared.fault.SystemFault.{SystemFault}
 use Rattle.lagsystem.specs.Calls.{Call}
 use Rattle.lagsystem.specs.Drives.{Drives}
 use Rattle.lagsystem.specs.First.{config_refusal}
+use Rattle.lagsystem.specs.Settings.{Setting, SettingPromise}
 use Rattle.lagsystem.specs.Sound.{CallPromise, IsMade, IsSound}
 use Rattle.lagsystem.specs.State.{SystemState}
-use Rattle.law_answers.specs.Fits.{CallFits, ConfigFits, NumbersFit}
+use Rattle.law_answers.specs.Fits.{CallFits, ConfigFits, NumbersFit, SettingFits}
 
 -- each configuration that is accepted, whose numbers fit, has a system as `new` makes it
 abbrev pub EachConfigurationBegins : Type 0
@@ -31,6 +33,18 @@ pub record HasAnswer (gives : ℕ → ℕ → ℕ → Type 0) (old : SystemState
 abbrev pub EachCallHasAnAnswer : (ℕ → ℕ → ℕ → Type 0) → Type 0
 EachCallHasAnAnswer gives =
     (old : SystemState) (call : Call) → PicksOne gives → IsSound old → NumbersFit old → CallFits call → HasAnswer gives old call
+
+-- so has a setting
+pub record HasSettingAnswer (old : SystemState) (setting : Setting) : Type 0 where
+  pub answer : Result Unit SystemFault
+  pub new : SystemState
+  pub promise : SettingPromise old setting answer new
+  pub sound : IsSound new
+  pub fits : NumbersFit new
+
+-- each setting of a sound system whose numbers fit has an answer
+abbrev pub EachSettingHasAnAnswer : Type 0
+EachSettingHasAnAnswer = (old : SystemState) (setting : Setting) → IsSound old → NumbersFit old → SettingFits setting → HasSettingAnswer old setting
 
 -- so a list of calls has answers
 pub record HaveAnswers (gives : ℕ → ℕ → ℕ → Type 0) (old : SystemState) (calls : List Call) : Type 0 where

@@ -11,6 +11,7 @@ use Rattle.lagsystem.specs.declared.config.Config.{Config}
 use Rattle.lagsystem.specs.declared.config.PortConfig.{PortConfig}
 use Rattle.lagsystem.specs.declared.system_ports.SystemPort.{SystemPort}
 use Rattle.lagsystem.specs.Calls.{Call, Configure, Receive}
+use Rattle.lagsystem.specs.Settings.{Set_max_delay, Setting}
 use Rattle.lagsystem.specs.State.{SystemState}
 
 -- each number of the own parameters of a port fits into its field
@@ -64,3 +65,8 @@ abbrev pub CallFits : Call → Type 0
 CallFits (Receive port octets) = AreOctets octets
 CallFits (Configure port change) = (change.key.0 < 2 ^ 16) × (change.priority < 2 ^ 16)
 CallFits call = Unit {0}
+
+-- so of a setting: CollectorMaxDelay fits into two octets
+abbrev pub SettingFits : Setting → Type 0
+SettingFits (Set_max_delay max_delay) = max_delay < 2 ^ 16
+SettingFits setting = Unit {0}

@@ -5,7 +5,7 @@
 #![tactic(auto)]
 
 ghost use Rattle.std.specs.Prelude.{ℕ};
-ghost use Rattle.law_answers.specs.Answers.{EachCallHasAnAnswer, EachConfigurationBegins, EachListHasAnswers};
+ghost use Rattle.law_answers.specs.Answers.{EachCallHasAnAnswer, EachConfigurationBegins, EachListHasAnswers, EachSettingHasAnAnswer};
 
 // promise: each call of a system whose numbers fit has an answer that meets `CallPromise`, and the numbers fit after it; so has each list of
 //    calls. So no law over calls is empty: with `each_call_has_one_answer`, what a call does is a function
@@ -17,6 +17,15 @@ ghost use Rattle.law_answers.specs.Answers.{EachCallHasAnAnswer, EachConfigurati
 pub fn each_call_has_an_answer<F: Fn(u16, usize) -> usize>()
     ensures call { (algorithm : F) → EachCallHasAnAnswer (F.post algorithm) }
     ensures list { (algorithm : F) → EachListHasAnswers (F.post algorithm) }
+{}
+
+// promise: so has each setting, by `SettingPromise`
+// contract: `each_setting_has_an_answer`
+// premises: a CollectorMaxDelay that is set is below 65536 (`SettingFits`)
+/// Each setting of a sound system whose numbers fit into their octets has an answer, with all that every setting promises; the system is
+/// sound after it, and its numbers fit (6.4.2.3; profile).
+pub fn each_setting_has_an_answer()
+    ensures { EachSettingHasAnAnswer }
 {}
 
 // promise: each configuration that is accepted, whose numbers fit, has a first state, of which that holds
