@@ -6,12 +6,12 @@ import { NO_ROOM } from "./status.js";
 /* For each form of a text what to look at where it does not say whether a link is up, how its program counts LACPDUs (of bonding, which counts none, what a
  * capture tells), what sets it to active, what gives its ports one key, and how it uses one link, with a spare, without LACP. */
 const BONDING = {
+    group: "look at the port at the other end: is it in a channel group with LACP (switch: channel-group, mode active, not on; Linux bonding: mode=802.3ad), and does it send "
+        + "(Cisco IOS, Arista: show lacp counters)? If it sends none, LACP is off there. If it does, ",
     told: [
         "LACPDUs of the other end come as often as this end asks for them (lacp_rate fast: each second): they are lost in this end's receiver.",
         "If it asks for one each second, and one comes each 30 s, that end hears nobody, either: what this end sends is lost first.",
-        "None comes: look whether the port at the other end is in a bundle with LACP (switch: channel-group, mode active, not on; Linux bonding: mode=802.3ad). "
-            + "If it is, ask for the LACP counters of that port (Cisco IOS, Arista: show lacp counters). It sends none: LACP is off there. "
-            + "It sends some: look at the path, and whether this card keeps them for an agent of its own.",
+        "None comes, though it sends some: look at the path, and whether this card keeps them for an agent of its own.",
     ],
     active: (name) => `This end has lacp_active off. Its bond has to be down for it, which takes routes and IPv6 addresses: ip link set ${name} down; ip link set ${name} type bond lacp_active on; ip link set ${name} up`,
     key: "one speed, and full duplex", backup: "mode=active-backup",
@@ -26,6 +26,7 @@ const PROGRAMS = new Map([
         active: (name) => `This end has lacp=passive: ovs-vsctl set port ${name} lacp=active`,
         key: "one bond (other_config:lacp-aggregation-key)", backup: "bond_mode=active-backup and lacp=off",
     }],
+    ["switch", { counts: "compare the counts of show lacp counters with those of the other end, or capture", active: () => "This end is passive: channel-group N mode active", key: "one channel-group", backup: "" }],
     ["lagd", { counts: "compare its counts with those of the other end, or capture", active: () => "This end has activity=passive in its file: activity=active, and a reload", key: "one key" }],
 ]);
 const COMMANDS_AT = "docs/TROUBLE.md";
@@ -98,8 +99,8 @@ function adviceOnUnheard(it) {
     if (deaf) return `${asLong(it)}both texts have LACP, and ${deaf}. ${path} to it.`;
     if (before) return `${before}: look what changed at that port, or on the path from there. `
         + "It is so for 3 s: if it comes again and again, LACPDUs are lost, or come too seldom.";
-    const { link = "", counts, told } = PROGRAMS.get(it.form);
-    if (told) return `${asLong(it)}capture here, since no status says who is deaf: ${captureCommand(it.meant)}. In it:`;
+    const { link = "", counts, told, group } = PROGRAMS.get(it.form);
+    if (told) return `${asLong(it)}${group}capture here, since no status says who is deaf: ${captureCommand(it.meant)}. In it:`;
     return `${asLong(it)}${link}look whether the port at the other end is in a bundle with LACP `
         + "(switch: channel-group, mode active, not on; Linux bonding: mode=802.3ad). "
         + `If it is, no status says who is deaf: ${counts}.`;

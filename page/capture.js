@@ -1,10 +1,11 @@
 /* What is shown of a capture: a line a link, the causes, then a time axis for each pair of systems, then the frames and the text. */
 
-import { addressOf, bundlesOf, isRemark, nameOf, ruleOf, saidBy, secondsOf } from "./records.js";
+import { addressOf, isRemark, nameOf, ruleOf, saidBy, secondsOf } from "./records.js";
 import { capitalized, counted } from "./keys.js";
 import { frameOf } from "./cases.js";
-import { causesOf, PAST, titleOf } from "./causes.js";
-import { CARRIES, IDLE, linesOf, textOfLine } from "./summary.js";
+import { PAST, titleOf } from "./causes.js";
+import { CARRIES, foldedLines, IDLE, textOfLine } from "./summary.js";
+import { pictureOfVerdict } from "./picture.js";
 import { Packets } from "./packets.js";
 import { fieldsOf } from "./fields.js";
 import { octetsBeside } from "./octets.js";
@@ -180,8 +181,16 @@ function lineIn(line) {
     return it;
 }
 
+/* Lines that carry, as one that opens. */
+function foldedIn(line) {
+    const it = made("li"), inside = made("ul");
+    it.className = "good";
+    it.append(opening(textOfLine(line), () => { inside.append(...line.folded.map(lineIn)); return [inside]; }, false));
+    return it;
+}
+
 export function lineItems(lines) {
-    const parts = lines.map(lineIn), list = made("li");
+    const parts = foldedLines(lines).map((it) => it.folded ? foldedIn(it) : lineIn(it)), list = made("li");
     if (parts.length <= MOST_LINES) return parts;
     const inside = made("ul");
     inside.append(...parts.slice(MOST_LINES));
@@ -189,15 +198,23 @@ export function lineItems(lines) {
     return [...parts.slice(0, MOST_LINES), list];
 }
 
-/* Shows what the records say; `blob` has the capture, `at` the parts of the page. Gives the pairs, the lines of the links, and the causes. */
-export function showRecords(records, blob, at) {
-    const packets = new Packets(blob), bundles = bundlesOf(records), causes = causesOf(records, bundles), lines = linesOf(records, bundles);
+/* The picture of a verdict, in its place. */
+export function pictureIn(place, found) {
+    const it = pictureOfVerdict(found);
+    place.replaceChildren(...it ? [it] : []);
+    place.hidden = !it;
+}
+
+/* Shows what a verdict on captures says; `partOf` gives parts of the page. Gives the pairs of systems. */
+export function showCaptures(found, partOf) {
+    const { records, bundles, causes, lines, source } = found, packets = new Packets(source);
     const pairs = bundles.map((it, number) => new Pair(it, { packets, records }, number === 0));
     const pairOf = (finding) => pairs.find((it) => it.bundle.findings.includes(finding));
-    at.lines.replaceChildren(...lineItems(lines));
-    at.findings.replaceChildren(...causes.map((it) => causeItem(it, pairOf)));
-    at.links.replaceChildren(...pairs.map((it) => it.part));
-    return { pairs, lines, causes };
+    pictureIn(partOf("picture"), found);
+    partOf("lines").replaceChildren(...lineItems(lines));
+    partOf("findings").replaceChildren(...causes.map((it) => causeItem(it, pairOf)));
+    partOf("links").replaceChildren(...pairs.map((it) => it.part));
+    return { pairs };
 }
 
 /* What is drawn of each pair, for a report. All of it is made then. */

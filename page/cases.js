@@ -1,13 +1,14 @@
 /* What a finding is in its case: a title, what to do, and lines of what is seen. The findings are the module's; this is the page's. */
 
 import { addressOf, bitsOf, isKnown, isSilent, othersBeside, roundedSeconds, SHORT_TIMEOUT } from "./records.js";
-import { adviceOnTwoSystems, crossingOf, distinct, linkName, toldOfKeys } from "./keys.js";
+import { adviceOnTwoSystems, areByPartner, BY_PARTNER, capitalized, crossingOf, distinct, groupOf, linkName, meantAsOne, toldOfKeys } from "./keys.js";
 
 /* So many seconds behind its first LACPDU an end may send faster: it starts. A gap between LACPDUs from so many seconds on is slow; where short timeouts
  * are asked for, a smaller one, and an end that keeps it in so few of its gaps. So many seconds the last LACPDUs of two ends may stand apart where a
  * link goes down, and so few two that are one; of an end that is there twice so many of its LACPDUs are the second of two. */
 const START = 3, SLOW_GAP = 10, FAST_GAP = 1.4, FEW = 0.25, MARGIN = 1.1, AT_ONCE = 0.01, MOSTLY = 0.4;
 
+export const NOBODY_ANSWERS = "nobody answers";
 /* What sets a system to active, in each program. */
 const WAYS_ACTIVE = "bonding: lacp_active on, while the bond is down; teamd: \"active\": true of the runner; Open vSwitch: lacp=active; lagd: activity=active";
 
@@ -57,10 +58,10 @@ function ofSilence(finding, { link, records }) {
         advice: `The link went down, or this capture lost it: look at carrier and cable (ip link, show interfaces). Else ${at.short} sends no more: ${other.short} may send each 30 s alone.`,
     };
     if (isLast) return {
-        isFirst: true, isEffect: link.findings.some((it) => it.at === at && ofSingle(it, { link }).isFirst), title: "an end sends nothing more",
-        lines: [`${at.short} sends nothing after ${roundedSeconds(record.last)}; the capture goes on to ${roundedSeconds(link.until)}`, ...slowedSaid(at, other)],
-        advice: "Look at this end, not at its partner: its interface, driver or fibre sends no more (the direction to the partner may be dead alone), or the system hangs or is gone. "
-            + "If this was captured at its partner, the path may lose what it sends: capture at this end, too.",
+        isFirst: true, isEffect: link.findings.some((it) => it.at === at && ofSingle(it, { link }).isFirst), title: "nothing more comes from an end",
+        lines: [`nothing comes from ${at.short} after ${roundedSeconds(record.last)}; the capture goes on to ${roundedSeconds(link.until)}`, ...slowedSaid(at, other)],
+        advice: "Captured at its partner, two things look alike: it sends no more (its interface, driver or transmit fibre; or the system hangs or is gone), or what it sends is lost on the way "
+            + "(the receive fibre here, or a media converter that keeps the link up). Captured at this end itself, it sends no more. Capture at both ends: that says which.",
     };
     if (frame && before && isPause(before, frame, link)) return {
         title: "a link is silent at both ends for a while", lines: [pauseOf(link, frame.seconds)],
@@ -128,7 +129,9 @@ const ofUnheard = ({ at, seconds }, { link }) => {
         title, lines: [`LACPDUs of ${other.short} are in this capture, and do not reach ${at.short}`],
         advice: "Captured at the end that hears nobody: its receiver drops them, or a filter there. Captured at the sender: its own card, the path or the receiver of the other end; capture there, too.",
     };
-    return { title, advice: "No LACPDU of its partner is in this capture: set LACP on there (switch: mode active, not on; bonding: mode=802.3ad), or look at the path to here." };
+    if (at.hasHeard) return { title, advice: "No LACPDU of its partner is in this capture: set LACP on there (switch: mode active, not on; bonding: mode=802.3ad), or look at the path to here." };
+    return { title: NOBODY_ANSWERS, advice: "Look at the port at the other end: is it in a channel group with LACP (switch: channel-group, mode active, not on; bonding: mode=802.3ad)? If it is, look at the path: "
+        + "a bridge or switch between drops LACPDUs." };
 };
 
 /* Whether an end sends seldom, not now and then: where short timeouts are asked for, few of its gaps are as short. */
@@ -169,12 +172,12 @@ function comesTwice({ frames }) {
 }
 
 function ofOneWay({ at }) {
-    if (isKnown(at.named ?? "")) return { advice: "It names a partner, so it hears one: the capture has one direction alone. Capture both directions, or at the other end." };
+    if (isKnown(at.named ?? "")) return { isRemark: true, advice: "It names a partner, so it hears one: the capture has one direction alone. Capture both directions, or at the other end." };
     if (comesTwice(at)) return {
         title: "an end hears itself alone", lines: [`each LACPDU of ${at.short} is there twice, at once`],
         advice: "Look for a loop: a port that is looped back, or a cable that leads back to it. Linux drops LACPDUs of its own system (dmesg: \"An illegal loopback occurred\").",
     };
-    return { advice: "It names no partner: look whether LACP runs at the other end (switch: mode active, not on; bonding: mode=802.3ad), and whether the cable leads straight there: "
+    return { title: NOBODY_ANSWERS, advice: "It names no partner: look whether LACP runs at the other end (switch: mode active, not on; bonding: mode=802.3ad), and whether the cable leads straight there: "
         + "a bridge or switch between drops LACPDUs. A card may keep them for an LLDP or LACP agent of its own: turn that off, and capture again." };
 }
 
@@ -210,8 +213,9 @@ const BACKUP = "mode=active-backup of bonding (teamd: the runner activebackup; O
 
 const ofSplit = (finding, { link, bundles, groups }) => {
     const system = finding.at.system, links = bundles.flatMap((it) => it.links).filter((it) => !it.isPast && it.ends.some((end) => end?.system === system));
-    const crossed = crossingOf(link, groups);
+    const crossed = crossingOf(link, groups), group = groupOf(link, groups);
     if (crossed) return crossed;
+    if (group && areByPartner(group)) return { isRemark: true, title: BY_PARTNER, advice: capitalized(meantAsOne(group)) };
     const own = links.flatMap((it) => it.ends).filter((it) => it?.system === system), partners = distinct(own.map((it) => it.last.partner.system));
     if (partners.length > 1 && distinct(partners.map(addressOf)).length === 1) return {
         title: "links lead to one address with several system priorities", lines: own.map((it) => `${it.name}: ${it.last.partner.system.replace("/", ", ")}`),

@@ -2,7 +2,8 @@
  * holds no more stands behind. The findings are the module's; the order is this page's. */
 
 import { isKnown, isRemark, roundedSeconds } from "./records.js";
-import { capitalized, joinedBy, keyGroups, OWN_SYSTEM, whereOf } from "./keys.js";
+import { copiesIn, isOfCopied, twinsIn } from "./identities.js";
+import { capitalized, distinct, joinedBy, keyGroups, linkName, OWN_SYSTEM, whereOf } from "./keys.js";
 import { isOfFileEnd, isTakenOut, systemsIn, toldOf, toldOfEarly } from "./cases.js";
 import { untilOf } from "./past.js";
 
@@ -18,9 +19,15 @@ const LEADING = [28, 30, 26, 29], FOLLOWING = [12, 13, 17, 22, 23], UNHEARD = [1
 const QUICKENING = [11, 12, 16, 23, 26];
 /* All, in the order in which they are told: whoever explains others comes first, what is usual at a start last. */
 const ORDER = [...LEADING, 15, 10, 9, 7, 5, 14, 18, 11, 12, 16, 2, 3, 4, 23, 25, 24, 20, 19, 21, 22, 17, 13, 1, 27, 6, 8];
+export const TWO_DEVICES = "two devices act as one system";
 /* What is said of effects on links of two systems that have no fault. */
 export const CAUSELESS = "this capture does not show why: ask both ends, and capture all links for 100 s.";
 const AT_START = [13, "Right after a start rule 13 is normal if both ends distribute later."];
+
+/* What compares links of a system, or a partner with the one that answers: of a copied identifier it says nothing. */
+const OF_IDENTITY = [2, 3, 4, 15, 16, 26, 29];
+/* What an end looks like that sends from two addresses, each of which is seen now and then. */
+const OF_ADDRESSES = [1, 2, 3, 4, 11, 12, 16, 18, 22, 23, 26];
 
 const isFault = (finding) => !isRemark(finding) && !FOLLOWING.includes(finding.rule);
 const namesOf = (ends) => [...new Set(ends.map((it) => it.short))].join(", ");
@@ -31,6 +38,8 @@ class Item {
         Object.assign(this, { kind, rule, title: told.title ?? finding.name, advice: told.advice ?? finding.advice, lines: [], findings: [], effects: [], isFirst: told.isFirst, isLast: told.isLast });
         this.clause = finding.clause;
         this.until = null;
+        this.links = [];
+        this.head = "";
     }
 
     get places() { return this.findings.length; }
@@ -58,6 +67,7 @@ class Looking {
         this.where = new Map(bundles.flatMap((bundle) => bundle.links.flatMap((link) => link.findings.map((it) => [it, { bundle, link }]))));
         this.groups = keyGroups(bundles);
         this.strangers = strangersIn(bundles);
+        this.copies = copiesIn(bundles);
         for (const { links } of bundles) for (const link of links) link.isAlone = links.every((it) => it === link || whereOf(it) !== whereOf(link));
     }
 
@@ -65,6 +75,12 @@ class Looking {
 
     /* All that is looked at around a finding. */
     placeOf(finding) { return { ...this.at(finding), records: this.records, bundles: this.bundles, groups: this.groups }; }
+
+    /* Whether a finding compares links of a system that is copied. */
+    isOfCopy(finding) {
+        const parties = this.at(finding).link.ends.filter((it) => it?.last).flatMap(({ last: { actor, partner } }) => [actor, partner]);
+        return OF_IDENTITY.includes(finding.rule) && parties.some(({ system, key }) => isOfCopied(this.copies, system, key));
+    }
 
     isOfStranger({ at }) { return this.strangers.some(({ end }) => end === at); }
 
@@ -82,7 +98,7 @@ class Looking {
 
     kindOf(finding, told, faults) {
         if (told.isRemark || isRemark(finding)) return REMARK;
-        if (told.isEffect || this.isOfStranger(finding) || (finding.rule === 1 && this.at(finding).link.findings.some((it) => QUICKENING.includes(it.rule)))) return EFFECT;
+        if (told.isEffect || this.isOfCopy(finding) || this.isOfStranger(finding) || (finding.rule === 1 && this.at(finding).link.findings.some((it) => QUICKENING.includes(it.rule)))) return EFFECT;
         if (isFault(finding)) return FAULT;
         return UNHEARD.includes(finding.rule) && !this.follows(finding, faults) ? FAULT : EFFECT;
     }
@@ -107,21 +123,42 @@ function strangerItem({ end, link }) {
     return it;
 }
 
-/* Ends of several links that call themselves one port of one system: an MLAG pair, or a copied identifier. */
-function twinsIn(bundles) {
-    const ends = bundles.flatMap((it) => it.links).filter((it) => !it.isPast).flatMap((it) => it.ends).filter((it) => it?.last), names = new Map();
-    for (const it of ends) {
-        const name = `${it.short} ${it.last.actor.key}`;
-        names.set(name, [...names.get(name) ?? [], it]);
-    }
-    return [...names.values()].filter((list) => ["source", "interface"].every((of) => new Set(list.map((it) => it[of])).size > 1));
+/* Where ends speak: on which interfaces, and from which addresses where these differ. */
+function placesSaid(ends) {
+    const isOne = distinct(ends.map((it) => it.source)).length === 1;
+    return isOne ? `on ${joinedBy(ends.map((it) => it.label))}` : `sent by ${joinedBy(ends.map(({ label, source }) => `${source}${label ? ` on ${label}` : ""}`))}`;
 }
 
+/* Two switches that act as one, with one number for two of their ports. */
 function twinItem(bundles) {
-    const it = new Item(REMARK, null, {}, { name: "two devices act as one system", clause: "", advice: "" });
-    it.lines = twinsIn(bundles).map((list) => `${list[0].short}: sent by ${joinedBy(list.map(({ label, source }) => `${source}${label ? ` on ${label}` : ""}`))}`);
-    it.advice = "Right if they are an MLAG pair; else one has a copied identifier, and data goes astray: give each its own (" + OWN_SYSTEM + ").";
+    const it = new Item(REMARK, null, {}, { name: TWO_DEVICES, clause: "", advice: "" });
+    it.lines = twinsIn(bundles).filter(({ isCopy, hasKeys }) => !isCopy && !hasKeys).map(({ ends }) => `${ends[0].short}: ${placesSaid(ends)}`);
+    it.advice = `Right if they are an MLAG pair, which should number its ports apart, since a system and a port name one link alone; else one has a copied identifier, and data goes astray: give each its own (${OWN_SYSTEM}).`;
     return it.lines.length ? [it] : [];
+}
+
+/* Machines with one system and one port number each, whose partners are of two groups: nothing that compares keys or systems is to be judged there. */
+function copyItem(bundles) {
+    const twins = twinsIn(bundles).filter(({ isCopy }) => isCopy), isPair = twins.some(({ ends }) => distinct(ends.map((it) => it.source)).length > 1);
+    if (!twins.length) return [];
+    const it = new Item(FAULT, null, { isFirst: true }, { name: "one identifier is at two places", clause: "", advice: "" }), [{ ends: [one, ...more] }] = twins;
+    it.links = bundles.flatMap((bundle) => bundle.links).filter((link) => link.ends.some((end) => twins.some(({ ends }) => ends.includes(end))));
+    it.lines = twins.map(({ ends }) => `${ends[0].short}: ${placesSaid(ends)}`);
+    it.head = `${it.title}: ${one.short} speaks ${one.label ? `on ${joinedBy([one, ...more].map(({ label }) => label))}` : "twice"}`;
+    it.advice = `Two machines have one system, and so one may be taken for the other. Give each its own identifier (${OWN_SYSTEM}), and look again; change no keys or groups before.${isPair
+        ? " Only if they are an MLAG pair, whose links are to be one bundle, is the group at their partner wrong." : ""}`;
+    return [it];
+}
+
+/* An end that sends from several addresses: it is one end, by system and port. */
+function addressItems(links) {
+    return links.flatMap((link) => link.ends.filter((it) => it?.others.length).map((end) => {
+        const it = new Item(REMARK, null, {}, { name: "one end sends from two source addresses", clause: "", advice: "" });
+        it.lines = [`${end.short} on ${linkName(link)}: ${joinedBy([end, ...end.others].map(({ source }) => source))}`];
+        it.advice = "An end is a system and a port, so this is one link; an LACPDU has the address of its port as its source (6.4.2.2). Look which device has the other address.";
+        it.findings = link.findings.filter(({ rule }) => OF_ADDRESSES.includes(rule));
+        return it;
+    }));
 }
 
 /* Links whose files end before others: those that are cut short, and those of which nobody knows why; of a port that is taken out it is an effect. */
@@ -142,7 +179,8 @@ function folded(items, looking) {
     const causes = items.filter((it) => it.kind === FAULT), rest = [];
     for (const item of items.filter((it) => it.kind === EFFECT)) {
         const near = (test) => causes.find((it) => it.findings.some((one) => item.findings.some((other) => test(looking.at(one), looking.at(other)))));
-        const cause = (item.findings.some((it) => looking.isOfStranger(it)) && causes.find((it) => it.rule === 26))
+        const cause = causes.find((it) => item.findings.some((one) => it.links.includes(looking.at(one).link)))
+            || (item.findings.some((it) => looking.isOfStranger(it)) && causes.find((it) => it.rule === 26))
             || near((one, other) => one.link === other.link) || near((one, other) => one.bundle === other.bundle)
             || causes.find((it) => it.findings.some((one) => item.findings.some((other) => one.at.interface === other.at.interface)));
         if (cause) cause.effects.push(item);
@@ -187,10 +225,11 @@ function asPast(causes, until) {
 
 /* The causes of a capture, the first one first; each has its effects. What holds no more stands behind what does. */
 export function causesOf(records, bundles) {
-    const looking = new Looking(records, bundles), early = earlyItems(looking), findings = bundles.flatMap((it) => it.links).flatMap((it) => it.findings).filter((it) => !early.some((item) => item.findings.includes(it)));
+    const looking = new Looking(records, bundles), links = bundles.flatMap((it) => it.links), early = earlyItems(looking), addresses = addressItems(links);
+    const findings = links.flatMap((it) => it.findings).filter((it) => ![...early, ...addresses].some((item) => item.findings.includes(it)));
     const until = new Map(findings.map((it) => [it, untilOf(it, looking.placeOf(it))])), isPast = (it) => until.get(it) !== null;
-    const now = [...looking.strangers.map(strangerItem), ...early, ...itemsOf(findings.filter((it) => !isPast(it)), looking)].sort(byRank);
+    const now = [...copyItem(bundles), ...looking.strangers.map(strangerItem), ...early, ...itemsOf(findings.filter((it) => !isPast(it)), looking)].sort(byRank);
     const causes = folded(now, looking), past = folded(itemsOf(findings.filter(isPast), looking).sort(byRank), looking);
     for (const it of causes) if (it.kind === EFFECT) it.unexplained = unexplained(it);
-    return [...causes, ...twinItem(bundles), ...asPast(past, until)].sort((one, other) => KINDS.indexOf(one.kind) - KINDS.indexOf(other.kind));
+    return [...causes, ...twinItem(bundles), ...addresses, ...asPast(past, until)].sort((one, other) => KINDS.indexOf(one.kind) - KINDS.indexOf(other.kind));
 }

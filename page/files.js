@@ -15,11 +15,13 @@ export async function* packetsOf(blob, told = {}, most = blob.size) {
     const reading = new Reading(await viewOf(0, 24));
     if (!reading.isCapture) return;
     told.end = Math.min(reading.start, blob.size);
+    told.interfaces = new Set();
     for (let offset = reading.start, room = PIECE; offset < Math.min(blob.size, most);) {
         told.end = offset;
         const view = await viewOf(offset, room);
         let at = 0;
         for (let step = reading.step(view, at); step; step = reading.step(view, at)) {
+            for (const it of reading.interfaces.slice(-1)) told.interfaces.add(it);
             if (step.packet) yield step.packet;
             at += step.length;
         }
@@ -56,15 +58,29 @@ const isCut = ({ octets, original }, at) => at >= 0 && wholeOf(octets, original,
 /* What a file says beside its packets: names of interfaces by their numbers, comments by the numbers of packets; and after how many
  * octets LACPDUs are cut, 0 where they are whole. */
 export async function lookedAt(blob) {
-    const found = new Map(), comments = new Map();
+    const found = new Map(), comments = new Map(), told = {};
     let cut = 0;
-    for await (const it of packetsOf(blob, {}, MOST_LOOKED)) {
+    for await (const it of packetsOf(blob, told, MOST_LOOKED)) {
         if (!found.get(it.from.number)) found.set(it.from.number, it.from.name);
         if (it.comment) comments.set(it.number, it.comment);
         if (!cut && isCut(it, payloadAt(it))) cut = it.octets.length;
     }
     const names = new Map([...found].filter(([, name]) => name || found.size > 1).map(([number, name]) => [number, name || `interface ${number}`]));
-    return { names, comments, cut };
+    return { names, comments, cut, interfaces: [...told.interfaces ?? []].filter(isOfLink) };
+}
+
+/* Whether an interface may be of a link: loopback is not, nor is one that stands for all. */
+const isOfLink = ({ link, name }) => link === ETHERNET && !["lo", "any"].includes(name);
+const nameOfInterface = ({ name, number }) => name || `interface ${number}`;
+
+/* Files and interfaces that can be read and have no LACPDU are links, too: where they are, and what they are called. */
+const silentFile = (name) => ({ name, where: "in the file", unless: "it is of the bond itself, which has none" });
+const silentInterface = (name) => ({ name, where: "on the interface", unless: "it is no member of the bundle, as the bond itself is none" });
+
+/* The interfaces of one capture that is read as it is, on which no end sends an LACPDU. */
+export function silentInterfaces(interfaces, ends) {
+    const isHeard = ({ number }) => ends.some((it) => it.last && it.interface === number);
+    return interfaces.some(isHeard) ? interfaces.filter((it) => !isHeard(it)).map((it) => silentInterface(nameOfInterface(it))) : [];
 }
 
 /* A block of pcapng. */
@@ -86,7 +102,7 @@ export function captureOf(links, packets) {
     return new Blob([blockOf32(...SECTION_BLOCK), ...links.map(interfaceBlock), ...packets.map((it) => packetBlock(it.number, it.time, it.octets))]);
 }
 
-const stemOf = (name) => name.replace(/\.(pcap|pcapng|cap|dmp)$/i, "");
+const stemOf = (name) => name.replace(/\.gz$/i, "").replace(/\.(pcap|pcapng|cap|dmp)$/i, "");
 const GROUP = [0x01, 0x80, 0xc2, 0x00, 0x00, 0x02];
 
 /* A slow protocols frame as Ethernet has it, and where its payload begins: a cooked header has the source, and no destination. */
@@ -100,17 +116,33 @@ function etherOf(octets, link, at) {
 const textOf = (octets) => Array.from(octets, (it) => it.toString(16).padStart(2, "0")).join("");
 /* Who sends an LACPDU: the source address, and the system and the port of the actor. */
 const senderIn = ({ source, octets, at }) => `${source} ${textOf(octets.subarray(at + 6, at + 12))} ${textOf(octets.subarray(at + 16, at + 18))}`;
+/* Whom it names as its partner, by system and port; nothing where it names nobody. */
+const namedIn = ({ octets, at }) => octets.subarray(at + 26, at + 32).some(Boolean) ? `${textOf(octets.subarray(at + 26, at + 32))} ${textOf(octets.subarray(at + 36, at + 38))}` : "";
+
+/* For each sender the interfaces on which it speaks, each with the partners that it names there. */
+function sendersIn(kept) {
+    const senders = new Map();
+    for (const it of kept.filter((one) => one.isLacpdu)) {
+        const sender = senderIn(it), places = senders.set(sender, senders.get(sender) ?? new Map()).get(sender);
+        const named = places.set(it.number, places.get(it.number) ?? new Set()).get(it.number);
+        if (namedIn(it)) named.add(namedIn(it));
+    }
+    return senders;
+}
+
+/* Whether one sender has one link there, by the partners that it names: of two copies of one machine each has its own. */
+const isOneLink = (named, others) => !named.size || !others.size || [...named].some((it) => others.has(it));
 
 /* Interfaces of several files that hold one link, as one sender shows it: for each the first of them. */
 function sameLinks(kept, count) {
-    const first = Array.from({ length: count }, (_, number) => number), at = new Map();
-    for (const it of kept.filter((one) => one.isLacpdu)) {
-        const sender = senderIn(it), known = at.get(sender);
-        if (known === undefined) at.set(sender, first[it.number]);
-        else if (first[it.number] !== first[known]) {
-            const [low, high] = [first[it.number], first[known]].sort((one, other) => one - other);
-            first.forEach((one, number) => { if (one === high) first[number] = low; });
-        }
+    const first = Array.from({ length: count }, (_, number) => number);
+    for (const places of sendersIn(kept).values()) {
+        const all = [...places];
+        all.forEach(([number, named], at) => {
+            const [known] = all.slice(0, at).find(([, others]) => isOneLink(named, others)) ?? [number];
+            const [low, high] = [first[number], first[known]].sort((one, other) => one - other);
+            first.forEach((one, place) => { if (one === high) first[place] = low; });
+        });
     }
     return first;
 }
@@ -133,7 +165,27 @@ function once(kept, linkOf) {
 /* What a file that is packed begins with. */
 const PACKED = new Map([["1f8b", "gzip"], ["fd377a585a00", "xz"], ["28b52ffd", "zstd"]]);
 
-const UNKNOWN_FILE = "neither pcap nor pcapng";
+const UNKNOWN_FILE = "neither pcap nor pcapng", WHAT_IS_READ = "captures are read, and what systems print of LACP (docs/TROUBLE.md has the list)";
+/* Of a file that gzip packed no more is unpacked. */
+const MOST_UNPACKED = 1 << 30;
+
+/* A file; of one that gzip packed what is in it, if that can be unpacked. */
+export async function unpacked(file) {
+    const begin = textOf(new Uint8Array(await file.slice(0, 2).arrayBuffer()));
+    if (begin !== "1f8b" || typeof DecompressionStream === "undefined") return file;
+    const parts = [];
+    try {
+        let count = 0;
+        for (const reader = file.stream().pipeThrough(new DecompressionStream("gzip")).getReader(); ;) {
+            const { done, value } = await reader.read();
+            if (done) return new Blob(parts);
+            parts.push(value);
+            if ((count += value.length) > MOST_UNPACKED) return file;
+        }
+    } catch {
+        return file; // it is cut, or broken
+    }
+}
 
 /* Why a file is no capture, by its first octets. */
 async function whyUnknown(file) {
@@ -141,16 +193,17 @@ async function whyUnknown(file) {
     return found ? `packed by ${found[1]}: unpack it first` : UNKNOWN_FILE;
 }
 
-/* What the module says of one file that is no capture, with the program that packed it. */
+/* What the module says of one file that is no capture: which program packed it, or what is read. */
 export async function saidOf(said, [file]) {
-    const why = said.includes(UNKNOWN_FILE) ? await whyUnknown(file) : UNKNOWN_FILE;
-    return why === UNKNOWN_FILE ? said : said.replace(/neither pcap nor pcapng(: \d+)?/, why);
+    if (!said.includes(UNKNOWN_FILE)) return file.size ? said : said.replace(/octet 0: cut short/, "it is empty");
+    const why = await whyUnknown(file);
+    return said.replace(/octet 0: neither pcap nor pcapng(: \d+)?/, why === UNKNOWN_FILE ? `${why}: ${WHAT_IS_READ}` : why);
 }
 
 /* What one file gives: its slow protocols frames, when it begins, and its last packet, up to which it goes; whether it has LACPDUs, and why it cannot be read to its
  * end. `numberOf` gives interfaces their numbers. */
 async function readOut(file, numberOf) {
-    const told = { end: -1 }, kept = [];
+    const told = { end: -1 }, kept = [], heard = new Set();
     let last = null, begin = null;
     for await (const it of packetsOf(file, told)) {
         const { octets, original, from } = it, at = payloadAt(it), index = from.link === COOKED_2 ? new DataView(octets.buffer, octets.byteOffset).getUint32(4) : null;
@@ -159,11 +212,14 @@ async function readOut(file, numberOf) {
         if (at < 0) continue;
         const ether = etherOf(wholeOf(octets, original, at), from.link, at);
         last = { ...last, ...ether, source: textOf(ether.octets.subarray(6, 12)), isLacpdu: isLacpdu(octets, at) };
+        if (last.isLacpdu) heard.add(from);
         kept.push(last);
     }
     if (last && last !== kept.at(-1)) kept.push(last);
     const isUnknown = file.size > 0 && told.end < 0, fault = !file.size ? "it is empty" : isUnknown ? await whyUnknown(file) : told.end < file.size ? `octet ${told.end}: cut short, or broken` : "";
-    return { file, stem: stemOf(file.name ?? ""), kept, from: begin, fault, isUnknown, isSilent: !kept.some((it) => it.isLacpdu) };
+    const stem = stemOf(file.name ?? ""), isSilent = !kept.some((it) => it.isLacpdu), quiet = [...told.interfaces ?? []].filter((it) => isOfLink(it) && !heard.has(it));
+    const silent = isSilent ? [silentFile(stem)] : quiet.map((it) => silentInterface(`${stem} ${nameOfInterface(it)}`.trim()));
+    return { file, stem, kept, from: begin, fault, isUnknown, silent };
 }
 
 /* Numbers for the interfaces of a file, and their names by these. */
@@ -188,8 +244,8 @@ function unknownSaid(given) {
 }
 
 /* Slow protocols frames of files as one capture, by their times. `unknown` says how many files are no captures, `names` has
- * whence each interface is, `places` for each packet its file and its number there, `faults` what cannot be read, `silent` the files that can
- * be read and have no LACPDU, `doubled` how many frames stand in several files and are taken once, and `fileEnds` for each link when its file ends, in
+ * whence each interface is, `places` for each packet its file and its number there, `faults` what cannot be read, `silent` the files and
+ * interfaces that can be read and have no LACPDU, `doubled` how many frames stand in several files and are taken once, and `fileEnds` for each link when its file ends, in
  * seconds, and whether it is cut short. Packets that were cut get whole. Files of different times end together; `apart` says so. */
 export async function merged(files) {
     const given = [], faults = [], silent = [], names = new Map();
@@ -198,7 +254,7 @@ export async function merged(files) {
         name();
         given.push(it);
         if (it.fault) faults.push(`cannot read ${file.name}: ${it.fault}`);
-        else if (it.isSilent) silent.push(it.stem);
+        else silent.push(...it.silent);
     }
     const all = given.flatMap(({ kept }) => kept), first = sameLinks(all, names.size), linkOf = (number) => first[number], { moves, apart, note, ends } = movesOf(given, linkOf);
     const kept = once(all, linkOf).map((it) => ({ ...it, time: it.time + (moves.get(it.file) ?? 0n) })).sort((one, other) => one.time < other.time ? -1 : Number(one.time > other.time));

@@ -5,7 +5,7 @@ import { hexadecimal } from "./records.js";
 import { ETHERNET } from "./packets.js";
 import { captureOf } from "./files.js";
 import { nameOfPort } from "./advice.js";
-import { COLLECTING_BIT, DISTRIBUTING_BIT, EXPIRED_BIT, NO_ADDRESS, TIMEOUT_BIT } from "./status.js";
+import { NO_ADDRESS, TEXT_BITS } from "./readings.js";
 
 const STEP_SECONDS = 2, LASTING = 94, BEGIN = 1700000000;
 /* lagtool examines 64 ends: so many links. */
@@ -14,15 +14,15 @@ export const MOST_LINKS = 32;
 export const OF_STATUS = [2, 3, 4, 5, 12, 14, 15, 17, 22, 29, 30];
 
 /* Whether the state of a port has it distribute, and its program says that it does not: Open vSwitch, with may_enable: false. Its bits are cleared. */
-export const isDenied = ({ actor, isUsed, standsBy, isAway }) => isUsed === false && !standsBy && !isAway && actor !== null && (actor.state & DISTRIBUTING_BIT) !== 0;
+export const isDenied = ({ actor, isUsed, standsBy, isAway }) => isUsed === false && !standsBy && !isAway && actor !== null && (actor.state & TEXT_BITS.DISTRIBUTING) !== 0;
 
 /* What a text does not say, out of the way of others: the same for one port of a text. A partner without a name is one for all ports, with
  * the key that this end's implies, so that nothing is said of it. */
 function filledIn(port, number) {
     const fill = (it, other) => Object.fromEntries(Object.entries(other).map(([key, value]) => [key, it[key] ?? value]));
     const own = { priority: 65535, key: 1, portPriority: 255, port: number + 1, state: 0 }, actor = fill(port.actor, { ...own, system: "02:ff:00:00:00:01" });
-    if (isDenied(port)) actor.state &= ~(COLLECTING_BIT | DISTRIBUTING_BIT);
-    if (!port.partner) return { actor, partner: { priority: 0, system: NO_ADDRESS, key: 0, portPriority: 0, port: 0, state: port.actor.state & EXPIRED_BIT ? 0 : TIMEOUT_BIT } };
+    if (isDenied(port)) actor.state &= ~(TEXT_BITS.COLLECTING | TEXT_BITS.DISTRIBUTING);
+    if (!port.partner) return { actor, partner: { priority: 0, system: NO_ADDRESS, key: 0, portPriority: 0, port: 0, state: port.actor.state & TEXT_BITS.EXPIRED ? 0 : TEXT_BITS.SHORT } };
     return { actor, partner: fill(port.partner, { ...own, priority: port.partner.system === null ? 65535 : 0, system: "02:ff:00:00:00:02" }) };
 }
 
@@ -69,7 +69,7 @@ function lacpduOctets(source, actor, partner) {
 function sendersOf([end, far], number) {
     const sender = (it, other = null) => ({ number, source: it.source || it.actor.system, actor: it.actor, partner: it.partner, of: { ...it, far: other && nameOfPort(other), isHeldThere: other?.isHeld, saysThere: other?.says } });
     if (far) return [sender(end, far), sender(far, end)];
-    if (!end.isHeard || end.actor.state & EXPIRED_BIT || end.partner.system === end.actor.system) return [sender(end)];
+    if (!end.isHeard || end.actor.state & TEXT_BITS.EXPIRED || end.partner.system === end.actor.system) return [sender(end)];
     return [sender(end), { number, source: `02:fe:00:00:${hexadecimal(number >> 8)}:${hexadecimal(number & 255)}`, actor: end.partner, partner: end.actor, of: { ...end, isImplied: true } }];
 }
 

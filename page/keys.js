@@ -1,6 +1,7 @@
 /* The keys of links (6.3.6): which links share a system and its key, at one end or the other, and which of them lead astray. */
 
 import { addressOf, isKnown } from "./records.js";
+import { copiesIn, isOfCopied } from "./identities.js";
 
 /* Of so many keys at one end it is looked which cables are crossed. */
 const MOST_KEYS = 5;
@@ -19,10 +20,10 @@ function keysAtBothEnds({ ends: [one, other] }) {
     return isNamed && first !== undefined && second !== undefined ? [first, second] : null;
 }
 
-/* A link with what it joins: at each end a system and its key. */
-function joint(link, { systems }) {
-    const keys = link.isPast || systems[0] === systems[1] || !systems.every(isKnown) ? null : keysAtBothEnds(link);
-    return keys && { link, systems, keys, joins: keys.map((key, way) => `${systems[way]} ${key}`) };
+/* A link with what it joins: at each end a system and its key; a system that is copied is another one beside each partner. */
+function joint(link, { systems }, copies) {
+    const keys = link.isPast || systems[0] === systems[1] || !systems.every(isKnown) ? null : keysAtBothEnds(link), names = keys?.map((key, way) => `${systems[way]} ${key}`);
+    return keys && { link, systems, keys, joins: names.map((name, way) => isOfCopied(copies, systems[way], keys[way]) ? `${name} beside ${names[1 - way]}` : name) };
 }
 
 /* Gives each thing that links join its side, so that each link joins one to the other, and turns the links so; whether that goes. */
@@ -46,8 +47,8 @@ const byName = (one, other) => nameIn(one).localeCompare(nameIn(other), "en", { 
 
 /* The groups of links that share a system and its key, at one end or the other, through others too. */
 export function keyGroups(bundles) {
-    const groups = [];
-    for (const it of bundles.flatMap((bundle) => bundle.links.map((link) => joint(link, bundle))).filter(Boolean)) {
+    const groups = [], copies = copiesIn(bundles);
+    for (const it of bundles.flatMap((bundle) => bundle.links.map((link) => joint(link, bundle, copies))).filter(Boolean)) {
         const near = groups.filter((group) => group.some(({ joins }) => joins.some((one) => it.joins.includes(one))));
         groups.splice(0, groups.length, ...groups.filter((group) => !near.includes(group)), [...near.flat(), it]);
     }
@@ -59,6 +60,14 @@ const side = (group, way) => distinct(group.map(({ joins }) => joins[way]));
 /* Whether links cross: at both ends there is more than one system with a key. */
 export const isCrossed = (group) => [0, 1].every((way) => side(group, way).length > 1);
 const pairOf = (joins) => joins.join(" ");
+
+/* Whether a group is as many bundles as one end of it has partners: the standard splits links of one key by partner. Each of them has two links or more, and one
+ * that carries; a bond that has to use one of them leaves all links of the others out. */
+export function areByPartner(group) {
+    const way = side(group, 0).length === 1 ? 1 : 0, far = side(group, way).map((name) => group.filter(({ joins }) => joins[way] === name));
+    const isWhole = (links) => links.length > 1 && links.every(({ link }) => link.ends.every((it) => it?.last)) && links.some(({ link }) => link.carries);
+    return !isCrossed(group) && distinct(group.map(({ systems }) => systems[way])).length > 1 && far.every(isWhole);
+}
 
 /* Each way to give everything at the one end something of its own at the other, as lists of pairs. */
 function matchings(ones, others) {
@@ -120,6 +129,13 @@ function ofCables(group) {
         advice: !astray.length ? "Compare each cable with the groups of both of its ports." : swaps ? `${capitalized(swaps)}; or put the ports there into each other's groups. Leave the other links as they are.`
             : `Look where ${listOf(astray)} ends: it joins a group to one that is another bundle's. Move its far end to a port of the right group, or put that port there.`,
     };
+}
+
+export const BY_PARTNER = "links of one key are bundles by partner";
+/* What is right where links of one key are several bundles, and what is not. */
+export function meantAsOne(group) {
+    const way = side(group, 0).length === 1 ? 0 : 1;
+    return `if ${addressOf(group[0].systems[way])} is to have one bundle, cable its links to one system (or make the others one: MLAG); else LACP is not your trouble.`;
 }
 
 /* What gives a system its identifier, in each program. */

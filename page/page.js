@@ -1,25 +1,17 @@
 /* The page: takes a file, lets the module explain it, and shows what it says. */
 
 import { Lagtool } from "./module.js";
-import { Records } from "./records.js";
-import { counted } from "./keys.js";
-import { countsOf, headlineOf, strangersSaid } from "./summary.js";
-import { captureFrom, saidOf } from "./files.js";
-import { areJoined } from "./cases.js";
-import { picturesOf, showRecords } from "./capture.js";
+import { asSentence, opened, verdict } from "./verdict.js";
+import { picturesOf, showCaptures } from "./capture.js";
 import { Playing } from "./playing.js";
-import { digitsOf, Payload } from "./payload.js";
+import { Payload } from "./payload.js";
 import { Texts } from "./pasting.js";
-import { statusIn } from "./status.js";
 import { offer, textOfReport } from "./saving.js";
 import { byId } from "./shapes.js";
 
 /* Of a longer text the page keeps so much of its beginning and of its end. */
 const MOST_SHOWN = 2000000, MOST_BEHIND = 100000;
-/* A larger file is no script and no payload. */
-const MOST_TEXT = 16000000;
-/* So many seconds of LACPDUs show each timeout: the longest is 90. */
-const ENOUGH = 93;
+const EXAMPLE = "unequal-keys.pcapng, an example";
 
 const octetsIn = (id) => Uint8Array.from(atob(byId(id).textContent), (it) => it.charCodeAt(0));
 
@@ -61,6 +53,8 @@ function clear(name, hasFocus = true) {
     window.shown = null;
     for (const it of ["lines", "findings"]) byId(it).replaceChildren();
     byId("links").replaceChildren();
+    byId("picture").replaceChildren();
+    byId("picture").hidden = true;
     byId("legend").hidden = true;
     byId("counts").textContent = byId("lasts").textContent = byId("undrawn-frames").textContent = "";
     byId("text").textContent = byId("copied").textContent = "";
@@ -83,54 +77,18 @@ async function run(lagtool, file, options, printed) {
     }
 }
 
-const ADVICE = "If it was taken of the bond (bond0, team0, lag0): capture its members (eth0, eth1), since LACPDUs stand on these alone. "
-    + "Else look whether LACP is on, and not passive at both ends: at a switch the mode of the group is active, not on (static); bonding has mode=802.3ad.";
-
-/* What is said of frames that could not be read: a capture that cuts frames cuts all LACPDUs alike; rule 7 has those that were short on the link. */
-function unreadIn({ unread, frames, all, findings }) {
-    if (!unread) return "";
-    const isRead = all.some((it) => it.system), isShort = findings.some((it) => it.rule === 7);
-    const count = `${isRead ? "" : "No LACPDU could be read: "}${unread} of ${counted(frames, "frame")} of the slow protocols could not be read`;
-    if (isShort) return `${count}: see rule 7.`;
-    return `${count}: capture whole frames (tcpdump -s 0)${isRead ? ", unless they are of another protocol, as OAM" : ""}.`;
-}
-
-function verdictOf(records, { lines, causes }, said, { unknown, apart }) {
-    const unread = unreadIn(records), [found, look] = headlineOf(lines, causes, unknown, apart);
-    if (unread) return [`${unread} ${lines.length ? found : ""}`.trim(), "bad"];
-    if (records.frames > records.others) return [found, said ? "bad" : look];
-    return [said ? "" : `No frame of the slow protocols (LACPDU, Marker PDU) is in this capture. ${ADVICE}`, "bad"];
-}
-
-/* How long a capture lasts, as far as its LACPDUs show it. */
-function lastingOf({ lasts }) {
-    if (lasts === null) return "";
-    const said = `Its LACPDUs span ${(Math.floor(10 * lasts) / 10).toFixed(1)} s`;
-    return lasts < ENOUGH ? `${said}, shorter than ${ENOUGH} s: not each timeout may show.` : `${said}.`;
-}
-
-/* The records of files, and what came of it: read once more where the files join captures one behind the other. */
-async function recordsOf(lagtool, files, isJoined = false) {
-    const given = await captureFrom(files, isJoined), records = new Records(), { names, comments, silent, fileEnds, places, numbers } = given;
-    Object.assign(records, { names, comments, silent, fileEnds, places, numbers });
-    const onStop = (error) => error.message === "stopped" ? error : Promise.reject(error);
-    const told = await run(lagtool, given.capture, { json: true }, (piece) => records.addLines(piece)).catch(onStop), isStopped = told instanceof Error;
-    return !isStopped && !isJoined && areJoined(records) ? recordsOf(lagtool, files, true) : { ...given, records, told, isStopped };
-}
-
-/* The records first, with what they show; then the text. */
-async function explain(lagtool, name, files) {
-    const given = await recordsOf(lagtool, files), { source, faults, note, records, told, isStopped } = given, said = isStopped ? told.message : [...faults, await saidOf(told.said, files)].filter(Boolean).join("\n");
-    const shown = showRecords(records, source, { lines: byId("lines"), findings: byId("findings"), links: byId("links") });
+/* What is said of captures; then the text that lagtool prints of them. */
+async function showFound(lagtool, name, found) {
+    const { records, source, isStopped, said } = found, shown = showCaptures(found, byId);
     now.pairs = shown.pairs;
     byId("legend").hidden = !shown.pairs.length;
     byId("undrawn-frames").textContent = records.frames > records.kept ? `Of ${records.frames} frames ${records.kept} are drawn.` : "";
-    byId("lasts").textContent = [lastingOf(records), note, strangersSaid(shown.lines, records)].filter(Boolean).join(" ");
-    byId("counts").textContent = countsOf(shown.causes);
-    put(name, ...verdictOf(records, shown, said, given), isStopped ? "Stopped: the findings want the whole capture." : said);
+    byId("lasts").textContent = [found.lasts, ...found.notes].filter(Boolean).join(" ");
+    byId("counts").textContent = found.counts;
+    put(name, found.headline, found.look, isStopped ? "Stopped: the findings want the whole capture." : said);
     const text = new Text(), { status = 2 } = isStopped ? {} : await run(lagtool, source, {}, (piece) => text.add(piece));
     byId("text").textContent = text.whole;
-    window.shown = { name, status: faults.length ? 2 : status, printed: text.whole, said };
+    window.shown = { name, status: found.hasFaults ? 2 : status, printed: text.whole, said };
 }
 
 /* Why a file cannot be read, and what helps; the browser does not say which of both it was. */
@@ -147,11 +105,15 @@ function refuse(name, error) {
     refuseFor(name, isUnread ? UNREADABLE : `This page could not explain it: ${error.message}. lagtool capture reads files of any size.`);
 }
 
-async function show(lagtool, name, files) {
+/* Explains what `opened` gave. */
+async function show(lagtool, given) {
+    const name = given.map((it) => it.name).join(", ");
     clear(name);
     byId("texts").open = false; // what is said of captures stands near the top
     try {
-        await explain(lagtool, name, files);
+        const found = await verdict(given, (capture, take) => run(lagtool, capture, { json: true }, take));
+        if (found.kind === "refused") refuseFor(name, asSentence(found.said));
+        else await showFound(lagtool, name, found);
     } catch (error) {
         if (error.message !== "stopped") refuse(name, error);
     }
@@ -175,18 +137,6 @@ function saveReport() {
     offer("report.html", "text/html", textOfReport(title, byId("shown"), pictures, byId("closing").innerHTML));
 }
 
-/* What a file is: a capture, unless it is a text that is a status or a payload, or reads like a script. */
-async function kindOf(file) {
-    if (file.size > MOST_TEXT) return { kind: "capture" };
-    const octets = new Uint8Array(await file.arrayBuffer());
-    if (octets.includes(0)) return { kind: "capture" };
-    const text = new TextDecoder().decode(octets);
-    if (/^\s*\[\[\s*system|^\s*events\s*=/m.test(text) || file.name.endsWith(".toml")) return { kind: "script", text };
-    if (/^([0-9a-f]{2})+$/i.test(digitsOf(text))) return { kind: "payload", text };
-    if (!text.trim()) return { kind: "empty" };
-    return { kind: statusIn(text) ? "status" : /[\u0001-\u0008\ufffd]/.test(text) ? "capture" : "text", text };
-}
-
 /* Begins to show texts of a status; gives what shows their headline. */
 function showTexts(name) {
     clear(name, false);
@@ -197,39 +147,24 @@ function showTexts(name) {
     };
 }
 
-/* Why files are not explained together; nothing where they are. */
-function apartIn({ captures, texts, empty }) {
-    const namesOf = (list) => list.map((it) => it.name).join(", ");
-    if (captures.length && texts.length) return `Captures and texts are explained apart: give ${namesOf(captures)} without ${namesOf(texts)}.`;
-    return texts.length && empty.length ? `Empty: ${namesOf(empty)}. Give ${namesOf(texts)} alone.` : "";
-}
-
-/* What takes files: captures together, and texts of a status; of what else is given the last of each kind. */
+/* What takes files: scripts and payloads go into their parts, the last of each kind; texts alone go into their boxes; all else is explained. */
 function takerOf(lagtool) {
     const playing = new Playing(lagtool, JSON.parse(byId("example-scripts").textContent)), payload = new Payload(lagtool), pasting = new Texts(lagtool, showTexts);
-    const loaded = (part, id) => (text) => { part.load(text); byId(id).scrollIntoView(); };
+    const loaded = (part, id) => ({ text }) => { part.load(text); byId(id).scrollIntoView(); };
     const load = { script: loaded(playing, "scripts"), payload: loaded(payload, "payloads") };
     return async (files) => {
-        const name = files.map((it) => it.name).join(", "), captures = [], texts = [], empty = [];
+        const given = [];
         try {
-            for (const file of files) {
-                const { kind, text } = await kindOf(file);
-                if (kind === "empty") empty.push(file);
-                else if (kind === "capture") captures.push(file);
-                else if (kind === "status" || kind === "text") texts.push({ name: file.name, text });
-                else load[kind](text);
-            }
+            for (const file of files) given.push(await opened(file));
         } catch (error) {
+            const name = files.map((it) => it.name).join(", ");
             clear(name);
             return refuse(name, error);
         }
-        const why = apartIn({ captures, texts, empty }), read = [...captures, ...empty];
-        if (why) {
-            clear(name);
-            return refuseFor(name, why);
-        }
-        if (read.length) return show(lagtool, read.map((it) => it.name).join(", "), read);
-        return texts.length ? pasting.load(texts.map((it) => it.text)) : undefined;
+        for (const it of given) load[it.kind]?.(it);
+        const rest = given.filter((it) => !load[it.kind]);
+        if (rest.length && rest.every(({ kind }) => ["status", "text"].includes(kind))) return pasting.load(rest.map((it) => it.text));
+        return rest.length ? show(lagtool, rest) : undefined;
     };
 }
 
@@ -255,7 +190,7 @@ function listenForFiles(take) {
 
 function listen(lagtool) {
     listenForFiles(takerOf(lagtool));
-    byId("example").addEventListener("click", () => show(lagtool, "unequal-keys.pcapng, an example", [new Blob([octetsIn("capture")])]));
+    byId("example").addEventListener("click", () => show(lagtool, [{ kind: "capture", name: EXAMPLE, file: new File([octetsIn("capture")], EXAMPLE) }]));
     byId("copy").addEventListener("click", copy);
     byId("stop").addEventListener("click", () => now.job?.stop());
     byId("report").addEventListener("click", saveReport);

@@ -4,12 +4,11 @@ import { ETHERNET } from "./packets.js";
 import { fieldsOf, fieldsOfPayload, isFrame } from "./fields.js";
 import { octetsBeside } from "./octets.js";
 import { byId } from "./shapes.js";
+import { digitsOf } from "./verdict.js";
 
 const HEADER = 28; // digits of both addresses and the EtherType
 
 const octetsOf = (digits) => Uint8Array.from(digits.match(/../g) ?? [], (it) => parseInt(it, 16));
-/* The digits alone: blanks, colons and dashes are for people. */
-export const digitsOf = (text) => text.replace(/^\s*0x|[\s:.-]/gi, "");
 
 export class Payload {
     constructor(lagtool) {

@@ -56,6 +56,7 @@ export class End {
         this.distributes = false;
         this.last = null;
         this.record = null;
+        this.others = [];
     }
 
     get name() {
@@ -245,9 +246,24 @@ function pairsSaid(records) {
 
 const isUpByItself = (end) => end.distributes && !end.isLost;
 
+/* An end of a link that says the same of itself, from another source address, and names no other partner; null where there is none. */
+function sameEnd(end, ends) {
+    const named = (it) => [...it.partners].filter((one) => isKnown(one.split(" ")[0])), isHere = (it) => it !== end && it.last && it.interface === end.interface && it.port === end.port && it.system === end.system;
+    return end.last ? ends.find((it) => isHere(it) && (!named(end).length || named(end).some((one) => it.partners.has(one)))) ?? null : null;
+}
+
+/* Takes ends that are one with another one, of a link, to that; gives those that are left. */
+function othersTaken(ends, seen) {
+    return ends.filter((end) => {
+        const it = sameEnd(end, [...seen]);
+        if (it) it.others.push(end);
+        return !it;
+    });
+}
+
 /* A link: two ends, of which the second may not be heard (null), their frames in the order of times, and their findings. */
 const linkOf = (ends, carries) => {
-    const heard = ends.filter(Boolean);
+    const heard = ends.filter(Boolean).flatMap((it) => [it, ...it.others]);
     return { ends, carries, frames: heard.flatMap((it) => it.frames).sort(byTime), findings: heard.flatMap((it) => it.findings) };
 };
 
@@ -263,13 +279,13 @@ function linksOf(records) {
         }
     };
     for (const { ends: both, carries } of pairsSaid(records)) if (both.every((it) => !seen.has(it))) take(carries, ...both);
-    const free = ends.filter((it) => !seen.has(it)), actors = listed(free, (it) => it.actors), partners = listed(free, (it) => it.partners);
+    const free = othersTaken(ends.filter((it) => !seen.has(it)), seen), actors = listed(free, (it) => it.actors), partners = listed(free, (it) => it.partners);
     for (const end of free) {
         if (seen.has(end)) continue;
         const found = partnerOf(end, actors, partners) ?? otherUnheard(end, free), partner = found && !seen.has(found) ? found : null;
         take(Boolean(partner && !end.record && isUpByItself(end) && isUpByItself(partner)), ...partner ? [end, partner] : [end]);
     }
-    return [...new Set(ends.map((it) => pairs.get(it)))].map(({ both, carries }) => linkOf(both.length > 1 ? both : [both[0], null], carries));
+    return [...new Set(ends.map((it) => pairs.get(it)).filter(Boolean))].map(({ both, carries }) => linkOf(both.length > 1 ? both : [both[0], null], carries));
 }
 
 /* Marks links of one end that is silent, where another end stands in its place now: nothing of it holds still. */

@@ -6,7 +6,7 @@ import { astrayIn, capitalized, counted, crossingOf, distinct, isCrossed, joined
 import { EFFECT, FAULT, REMARK } from "./causes.js";
 import { ALONE, CARRIES, howManyCarry, IDLE, UNKNOWN } from "./summary.js";
 import { flowSaid, hashesSaid } from "./hashes.js";
-import { ACTIVITY_BIT, COLLECTING_BIT, DEFAULTED_BIT, DISTRIBUTING_BIT, EXPIRED_BIT } from "./status.js";
+import { TEXT_BITS } from "./readings.js";
 import { isDenied, linksOfTexts } from "./implied.js";
 import { adviceOnPassive, areTwinsApart, dashed, isLinked, isSeveral, keysFollowSpeed, nameOfPort, namesIn, RULES, portsNamedAlike } from "./advice.js";
 
@@ -18,8 +18,8 @@ const speedOf = (it) => parseInt(it.speed, 10);
 const USUAL_SPEED = 10000;
 /* The links that are slower than another, or half duplex. */
 const slowIn = (ports) => ports.filter((it) => isHalf(it) || ports.some((other) => speedOf(other) > speedOf(it)));
-const hearsNobody = (it) => (it.state & (DEFAULTED_BIT | EXPIRED_BIT)) !== 0;
-const isPassive = (it) => !(it.state & ACTIVITY_BIT);
+const hearsNobody = (it) => (it.state & (TEXT_BITS.DEFAULTED | TEXT_BITS.EXPIRED)) !== 0;
+const isPassive = (it) => !(it.state & TEXT_BITS.ACTIVE);
 
 /* ---- Facts: a name, ports, a title and what to do; one without ports is none ---- */
 
@@ -30,7 +30,7 @@ const setSpeed = (ports, [other]) => eachDone(ports, (name) => `ip link set ${na
 const setUp = (ports) => eachDone(ports, (name) => `ip link set ${name} up`);
 const OF_CABLE = "look at the cable and at the other end's port.";
 
-function linkFacts({ name, told, ports, hash, isFar }) {
+function linkFacts({ name, told, ports, hash, isFar, form }) {
     const dead = ports.filter((it) => it.link === false && !it.isWaiting && !it.isOff), setDown = dead.filter((it) => it.isSetDown), down = dead.filter((it) => !it.isSetDown);
     const held = ports.filter((it) => it.isHeld), isSetUp = down.every((it) => it.isSetDown === false);
     const off = ports.filter((it) => it.isOff), waiting = ports.filter((it) => it.isWaiting), up = ports.filter((it) => isLinked(it) && it.aggregator !== null), linked = ports.filter(isLinked);
@@ -39,7 +39,7 @@ function linkFacts({ name, told, ports, hash, isFar }) {
     return [
         { name: "link-set-down", ports: setDown, title: `the link of ${namesIn(setDown)} is set down ${isFar ? "there" : "here"}`, advice: setUp(setDown) },
         { name: "link-down", ports: down, title: `the link of ${namesIn(down)} is down`,
-            advice: `Nothing of LACP is to be judged there: ${isSetUp ? "" : `if it is set down ${isFar ? "there" : "here"}, ${setUp(down)}; else `}${OF_CABLE}${unreported.length ? ` If ip link says LOWER_UP of ${namesIn(unreported)}, the device reports no speed, and bonding takes such a link as down: ${setSpeed(unreported, speeds)}` : ""}` },
+            advice: form === "switch" ? `Nothing of LACP is to be judged there: look whether the port is shut (no shutdown), and ${OF_CABLE}` : `Nothing of LACP is to be judged there: ${isSetUp ? "" : `if it is set down ${isFar ? "there" : "here"}, ${setUp(down)}; else `}${OF_CABLE}${unreported.length ? ` If ip link says LOWER_UP of ${namesIn(unreported)}, the device reports no speed, and bonding takes such a link as down: ${setSpeed(unreported, speeds)}` : ""}` },
         { name: "held", ports: held, title: `the host holds ${namesIn(held)} out of use`,
             advice: `${eachDone(held, (name) => `lagd --release ${name}`)}. If the file of the bundle has hold=yes, take that out, too.` },
         { name: "device-down", ports: off, title: `the device of ${told} is down: LACP has ended on ${namesIn(off)}`,
@@ -62,8 +62,8 @@ function linkFacts({ name, told, ports, hash, isFar }) {
 function silentFacts(bundle, form) {
     const { ports, isFar } = bundle;
     const silent = ports.filter((it) => it.actor && !it.partner && isLinked(it)), passive = silent.filter((it) => isPassive(it.actor));
-    const deaf = ports.filter((it) => it.actor && it.partner && isLinked(it) && it.actor.state & EXPIRED_BIT && hearsNobody(it.partner));
-    const both = DEFAULTED_BIT | EXPIRED_BIT, loops = form === "bonding" || form === "ip" ? silent.filter((it) => (it.actor.state & both) === both) : [];
+    const deaf = ports.filter((it) => it.actor && it.partner && isLinked(it) && it.actor.state & TEXT_BITS.EXPIRED && hearsNobody(it.partner));
+    const both = TEXT_BITS.DEFAULTED | TEXT_BITS.EXPIRED, loops = form === "bonding" || form === "ip" ? silent.filter((it) => (it.actor.state & both) === both) : [];
     return [
         { name: "passive-unheard", ports: passive, title: `passive, and hears nobody: ${namesIn(passive)}`, advice: isFar ? "Set that end, or this one, to active." : adviceOnPassive(form, deviceOf([bundle])) },
         { name: "never-heard", ports: loops, title: `no LACPDU was ever accepted on ${namesIn(loops)}`,
@@ -106,17 +106,17 @@ function severalFacts(text) {
 /* The facts of texts; `between` are those that hold between them. */
 function factsIn(texts, between) {
     const bundles = texts.flatMap((text) => text.bundles.map((it) => ({ ...it, form: text.form })));
-    const facts = bundles.flatMap((it) => [...linkFacts(it), ...silentFacts(it, it.form), ...partnerFacts(it)]), isCopied = between.some(({ name }) => name === "copied");
+    const facts = bundles.flatMap((it) => [...linkFacts(it), ...silentFacts(it, it.form), ...partnerFacts(it), ...it.facts ?? []]), isCopied = between.some(({ name }) => name === "copied");
     return [...between, ...facts.filter((it) => it.ports.length), ...isCopied ? [] : severalFacts(texts[0])];
 }
 
 /* ---- Causes ---- */
 
 /* What explains the rest comes first: facts by name, rules by number. */
-const RANKS = ["no-lacp", "no-state", "no-root", "set-down", 30, "own-address", "never-heard", "copied", "crossed", 29, 15, "apart", "device-down", "link-set-down", "link-down", "held", "no-speed", "speeds", "stands-by", 5, "passive-unheard", 14, "deaf-there", 12, 22, 17, 2, 3, 4, "too-few", "no-links"];
+const RANKS = ["no-lacp", "no-state", "no-root", "set-down", 30, "own-address", "never-heard", "copied", "crossed", 29, 15, "apart", "device-down", "link-set-down", "link-down", "suspended", "none-came", "none-sent", "held", "no-speed", "speeds", "stands-by", 5, "passive-unheard", 14, "deaf-there", 12, 22, "unattached-there", 17, 2, 3, 4, "too-few", "no-links"];
 const isUnheard = ({ rank }) => rank === 12;
 /* What calls for nothing by itself. */
-const ASIDE = ["away", "waiting", "aggregators", "same-partner-port", "one-system", "not-far", "several", "note", "said"];
+const ASIDE = ["away", "waiting", "hot-standby", "aggregators", "same-partner-port", "one-system", "not-far", "several", "note", "said"];
 
 const isCutIn = (text) => text.bundles.some((it) => it.isCut);
 /* That texts are cut, and where the first one of them is. */
@@ -237,7 +237,7 @@ function causesFound(found, text) {
 function followsFrom(it, { rank, ports }, bundles, isOfSpeed) {
     const isOfRank = { "no-speed": () => [12, 14].includes(it.rank) && it.ports.every(isSpeedless), speeds: () => (it.rank === 15 && isOfSpeed) || (it.rank === 12 && it.ports.every(isHalf)), "never-heard": isUnheard, "passive-unheard": isUnheard, "deaf-there": isUnheard }[rank];
     const own = ports.map((port) => bundleOf(port, bundles)), isNear = !own.length || !it.ports.length || it.ports.some((port) => own.includes(bundleOf(port, bundles)));
-    return isNear && ([17, 22].includes(it.rank) || Boolean(isOfRank?.(it)));
+    return isNear && ([17, 22, "unattached-there"].includes(it.rank) || Boolean(isOfRank?.(it)));
 }
 
 /* Causes by what explains others: the first one has what follows from it, in its bundles, and so has one that compares links. Where keys differ as speeds
@@ -307,7 +307,7 @@ function whyIdle(port, bundle) {
     if (port.link === false) return port.isSetDown ? "its link is set down here" : "its link is down";
     if (port.isAway) return "its carrier is away now";
     if (port.standsBy) return `it stands by: ${bundle.hash.join(" is ")}`;
-    if (!port.actor) return "the text has nothing of its LACPDUs";
+    if (!port.actor) return port.says || "the text has nothing of its LACPDUs";
     if (port.isHeld) return "the host holds it out of use";
     if (!port.partner) return isSpeedless(port) ? "its device reports no speed" : "it hears nobody";
     const used = bundle.ports.find((it) => it.isUsed), state = bitsOf(port.partner.state);
@@ -318,25 +318,33 @@ function whyIdle(port, bundle) {
     if (hearsNobody(port.partner)) return "the other end said that it hears nobody";
     if (hearsNobody(port.actor)) return "it hears nobody now";
     if (!state.includes("synchronized")) return "the other end has not attached it";
+    if (port.isOwnSaid === false) return port.says || "the other end does not collect and distribute";
     if (bundle.isOfLagd === false) return whyDetached(port, bundle);
     return `this end ${muxSaid(port.actor.state)}`;
 }
 
 /* Whether a port says that it carries data; null where nothing says so. */
-const saysCarry = (port) => port.isUsed ?? (port.actor ? (port.actor.state & DISTRIBUTING_BIT) !== 0 && port.partner !== null : null);
+const saysCarry = (port) => port.isUsed ?? (port.actor ? (port.actor.state & TEXT_BITS.DISTRIBUTING) !== 0 && port.partner !== null : null);
 
 /* How a port is, with the port at the other end where a text has that. */
 function stateOfPort(port, bundle, far) {
     const carries = saysCarry(port);
+    if (port.isCut) return [UNKNOWN, "the text is cut within its part"];
     if (port.actor && port.partner && port.link !== false && isPassive(port.actor) && isPassive(port.partner)) return [IDLE, "both ends are passive: it falls each few seconds"];
     if (port.isAlone) return [ALONE, "it hears nobody, and this end uses it all the same; data arrives if the other end uses it, too"];
+    if (carries && !port.actor) return [CARRIES, port.by];
     if (carries && !port.partner) return [IDLE, "it hears nobody, and this end sends on it alone"];
     if (carries === null && port.link !== false) return [UNKNOWN, whyIdle(port, bundle)];
     if (!carries) return [IDLE, whyIdle(port, bundle)];
-    if (!far && port.partner && !(port.partner.state & COLLECTING_BIT)) return [IDLE, "one way: this end uses it, and the other end does not collect"];
-    if (!far) return [CARRIES, "as this end says"];
+    if (!far && port.partner && !(port.partner.state & TEXT_BITS.COLLECTING)) return [IDLE, "one way: this end uses it, and the other end does not collect"];
+    if (!far) return [CARRIES, port.by ?? "as this end says"];
     return saysCarry(far) === false ? [IDLE, `this end uses it, and the other, ${far.name}, does not`] : [CARRIES, "both ways"];
 }
+
+/* The same in a few words. */
+const briefOf = (why) => why.replace(/^(it|this end|the text) (?=hears|has)/, "").split(/[:;,]/)[0];
+/* Whether LACPDUs come on a port in one direction alone, or in none. */
+const isOneWay = ({ actor, partner, link }) => actor !== null && link !== false && (!partner || hearsNobody(partner) || hearsNobody(actor));
 
 /* The name of the bundle of a port, before it, where there are several; a text of bonding need not have it. */
 const bundleSaid = ({ name }, all) => all.length > 1 && !name.endsWith(" of the text") ? `${name} ` : "";
@@ -346,7 +354,8 @@ export function linesOfTexts(texts) {
     const links = linksOfTexts(texts), lines = texts[0].bundles.flatMap((bundle) => bundle.ports.map((port) => {
         const [, far] = links.find(([end]) => end.said === port) ?? [port, null], { partner } = port;
         const who = partner?.system ? ` (partner ${dashed(partner.system)}${partner.port ? ` port ${partner.port}` : ""})` : "", [how, why] = stateOfPort(port, bundle, far);
-        return { name: `${bundleSaid(bundle, texts[0].bundles)}${port.name}${who}`, how, why };
+        const at = `${bundleSaid(bundle, texts[0].bundles)}${port.name}`;
+        return { name: `${at}${who}`, at, port, how, why, brief: how === CARRIES ? "" : briefOf(why), isOneWay: isOneWay(port) };
     }));
     return [IDLE, ALONE, UNKNOWN, CARRIES].flatMap((how) => lines.filter((it) => it.how === how));
 }
@@ -382,7 +391,8 @@ function causesNamed(bundles, causes) {
 /* The headline, and how it looks. */
 export function headlineOfTexts(texts, lines, causes) {
     const carry = lines.filter(({ how }) => how === CARRIES).length, all = lines.length, named = causesNamed(texts[0].bundles, causes);
-    const head = howManySaid(lines, texts[0].bundles);
+    const few = causes.filter(({ kind, rank }) => kind === FAULT && rank === "too-few" && !named.some((it) => it.rank === rank)).map(sentenceOf).join(" ");
+    const head = few ? `${few} ` : howManySaid(lines, texts[0].bundles);
     if (texts.some(isCutIn)) return [cutSaid(texts), "bad"];
     if (named.length) return [`${head}${named.map(sentenceOf).join(" ")}`, "bad"];
     if (!all) return ["No port of an LACP bundle is in this text.", "bad"];
@@ -404,6 +414,6 @@ export function rowsOfTexts(texts) {
     const party = (it) => it ? [it.system ? dashed(it.system) : "not named", it.key ?? "-", it.port ?? "-", bitsOf(it.state).join(", ") || "none"] : ["nobody", "-", "-", "-"];
     return texts.flatMap((text) => text.bundles.flatMap((bundle) => bundle.ports.map((it) => {
         const link = it.link === null ? "not said" : it.isWaiting ? "waiting" : it.link ? "up" : "down";
-        return [nameOfPort(it), link, `${it.aggregator ?? "-"}`, it.actor ? bitsOf(it.actor.state).join(", ") : "-", ...party(it.partner).map(String)];
+        return [nameOfPort(it), link, `${it.aggregator ?? "-"}`, it.isOwnSaid === false ? "not said" : it.actor ? bitsOf(it.actor.state).join(", ") : "-", ...party(it.partner).map(String)];
     })));
 }

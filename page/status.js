@@ -8,18 +8,14 @@
  * use it, in its words), and `facts`, texts of what no LACPDU has, with `advice` on them. A note has what is so, and what to do. A party has `priority`, `system`, `key`, `portPriority`, `port` and `state`; what the text does
  * not have is null; `partner` is null where none is heard. */
 
-export const NO_ADDRESS = "00:00:00:00:00:00";
+import { bundleOfText, macOf, NO_ADDRESS, numberOf, portOfText, TEXT_BITS } from "./readings.js";
+import { SWITCH_FORMS } from "./switches.js";
+
 /* What programs call the bits of a state, from the first. */
 const WORDS = [
     ["activity", "active"], ["timeout", "short_timeout"], ["aggregation", "aggregating"], ["synchronization", "synchronized", "in_sync"], ["collecting"],
     ["distributing"], ["defaulted"], ["expired"],
 ];
-export const ACTIVITY_BIT = 1;
-export const TIMEOUT_BIT = 2;
-export const COLLECTING_BIT = 16;
-export const DISTRIBUTING_BIT = 32;
-export const DEFAULTED_BIT = 64;
-export const EXPIRED_BIT = 128;
 /* What follows a state in the last line of a text that ends there. */
 const LAST_STATE = /(?:partner state|port state): *(.*)$/;
 /* Whether such words, or such a number of an octet, may go on. */
@@ -32,9 +28,7 @@ function octetOf(words) {
 }
 
 const wordsIn = (text) => (text ?? "").split(/\s+/).filter((it) => it && it !== "none" && it !== "-");
-const macOf = (text) => (text ?? "").replace(/[^0-9a-f]/gi, "").toLowerCase().replace(/..(?!$)/g, "$&:");
-const numberOf = (text) => text === undefined || text === null || text === "" || Number.isNaN(Number(text)) ? null : Number(text);
-const isDistributing = (actor) => actor !== null && (actor.state & DISTRIBUTING_BIT) !== 0;
+const isDistributing = (actor) => actor !== null && (actor.state & TEXT_BITS.DISTRIBUTING) !== 0;
 
 /* The last value of each key of lines such as `key: value`. */
 function valuesIn(text) {
@@ -42,7 +36,7 @@ function valuesIn(text) {
 }
 
 /* A partner is known if it has an address, and the end is not Defaulted. */
-const knownPartner = (actor, partner) => !partner || partner.system === NO_ADDRESS || (actor && actor.state & DEFAULTED_BIT) ? null : partner;
+const knownPartner = (actor, partner) => !partner || partner.system === NO_ADDRESS || (actor && actor.state & TEXT_BITS.DEFAULTED) ? null : partner;
 
 /* That fewer links of a bundle carry than it wants: it passes no data. Each form has its own name of what it wants. */
 const tooFew = (told, carrying, least, option) => ({
@@ -52,14 +46,6 @@ const tooFew = (told, carrying, least, option) => ({
 
 /* That a whole text of lagd has a bundle without a port. */
 const noLinks = (told) => ({ name: "no-links", text: `${told} has no links`, advice: "lagd --add IFACE gives it one; with members=follow: ip link set IFACE master DEVICE." });
-
-/* A bundle with what a form has of it. */
-const bundleOfText = (name, told, ports, given) => ({ name, told, ports, hash: null, isCut: false, cut: "", ...given });
-
-/* A port with what a form has of it. */
-const portOfText = (given) => ({
-    link: null, isAway: false, isWaiting: false, isOff: false, isHeld: false, isSetDown: null, source: "", actor: null, partner: null, aggregator: null, isUsed: null, isAlone: false, isLasting: false, speed: "", says: "", facts: [], advice: "", ...given,
-});
 
 const times = (number) => Number(number) === 1 ? "once" : `${number} times`;
 /* What to do where a link failed so often; once is seldom a fault. */
@@ -110,17 +96,22 @@ function memberOfBonding(part, active, isHeard) {
         name: it.get("Slave Interface"), link, source: macOf(it.get("Permanent HW addr")), actor, partner: knownPartner(actor, partner), aggregator, isUsed, isAlone,
         isLasting: SIDES.some((side) => isChurned(it, side)), speed: `${it.get("Speed")} ${it.get("Duplex")}`, facts: factsOfBonding(it), advice: adviceOfBonding(it),
     });
-    return { port, isWhole: it.has("MII Status") && it.has("Partner Churned Count") && (active === null || (actor !== null && partner !== null)) };
+    const isHeardWhole = actor !== null && partner !== null; // the lines of churns may be filtered out, and older drivers have none
+    port.isCut = !(it.has("MII Status") && (isHeardWhole || (active === null && it.has("Partner Churned Count"))));
+    return { port, isWhole: !port.isCut };
 }
 
 /* What each part of a port begins with. */
 const SLAVE = "Slave Interface: ";
 const noLacp = (text, mode) => ({ name: "no-lacp", text: `${text}: its mode is "${mode}"`, advice: "LACP is mode=802.3ad (802.3ad in sysfs and ip, too)." });
 
-/* That a whole text of bonding has a bond without a port. */
-const noMembers = (name) => ({
-    name: "no-links", text: `the bond ${name} has no member`, advice: `ip link set PORT down; ip link set PORT master ${name} (at each start: netplan \`interfaces:\`, ifupdown \`bond-slaves\`).`,
+/* That a text of bonding has a bond without a port. */
+const noMembers = (told, name) => ({
+    name: "no-links", text: `${told} has no member`,
+    advice: `ip link set PORT down; ip link set PORT master ${name} (at each start: netplan \`interfaces:\`, ifupdown \`bond-slaves\`). If ${told} has members, this text is cut behind its head: give all of it.`,
 });
+/* The last lines that a head may have: where nothing stands behind them, no port does. */
+const LAST_OF_HEAD = /^(?:Aggregator selection policy \(ad_select\): \S+\n|System MAC address: \S+\n|bond \S+ has no active aggregator|\s*Number of ports: 0\n(?:\s*(?:Actor Key|Partner Key|Partner Mac Address): \S+\n)*)\s*(?![\s\S])/m;
 
 /* Where the text of a bond is cut; nothing where it is whole. The driver says of the active aggregator how many ports it has. */
 function cutOf(text, members, active, least) {
@@ -142,7 +133,7 @@ function bondOf([, name, text]) {
     const found = /Active Aggregator Info:\s*\n\s*Aggregator ID: (\d+)[\s\S]*?Number of ports: (\d+)/.exec(head), active = found ? Number(found[1]) : null;
     const [, own] = /^bond (\S+) has no active aggregator$/m.exec(head) ?? [];
     const hash = /^(\S+)/.exec(said.get("Transmit Hash Policy") ?? "")?.[1], isHeard = macOf(said.get("Partner Mac Address")) !== NO_ADDRESS;
-    if (own && !parts.length && !SLAVE.startsWith(text.trimEnd().split("\n").at(-1))) return { bundles: [bundleOfText(own, `the bond ${own}`, [])], notes: [noMembers(own)] };
+    if (!parts.length && LAST_OF_HEAD.test(head)) return { bundles: [bundleOfText(own ?? called, own ? `the bond ${own}` : told, [])], notes: [noMembers(own ? `the bond ${own}` : told, own ?? name ?? "BOND")] };
     if (!found && !own) notes.push({ name: "no-root", text: "the text lacks the LACPDUs", advice: "Read the file as root (sudo cat /proc/net/bonding/bond0), or take ip -d -j link." });
     if (said.get("MII Polling Interval (ms)") === "0") notes.push({ name: "note", text: "miimon is 0: a link that goes down is not noticed" });
     const members = parts.map((it) => memberOfBonding(it, active, isHeard)), ports = members.map(({ port }) => port);
@@ -253,10 +244,10 @@ const noRunner = (runner) => ({ name: "no-lacp", text: `this team does not speak
 
 /* `hash` is tx_hash of a configuration that stands beside the state, which does not have it. */
 function team(json, hash) {
-    const runner = json.setup?.runner_name, name = json.team_device?.ifinfo?.ifname ?? "", notes = [];
-    if (runner !== "lacp") notes.push(noRunner(runner));
+    const runner = json.setup?.runner_name, name = json.team_device?.ifinfo?.ifname ?? "";
+    if (runner !== "lacp") return { form: "teamd", bundles: [], notes: [noRunner(runner)] };
     const bundle = bundleOfText(name, `the team ${name}`.trim(), Object.entries(json.ports ?? {}).map(memberOfTeam), { hash: hash ? ["tx_hash", hash.join(", ")] : null });
-    return { form: "teamd", bundles: notes.length ? [] : [bundle], notes };
+    return { form: "teamd", bundles: [bundle], notes: [] };
 }
 
 /* A state, a configuration (config dump, or the file), or both. */
@@ -289,12 +280,12 @@ function partyOfShow(said, side) {
 }
 
 /* Ticks of 100 ms behind which the next LACPDU is overdue: its period is 1 s or 30 s. */
-const overdueIn = (actor) => actor.state & TIMEOUT_BIT ? 30 - 15 : 900 - 350;
+const overdueIn = (actor) => actor.state & TEXT_BITS.SHORT ? 30 - 15 : 900 - 350;
 
 function factsOfShow(part, said, receive, actor) {
     const counts = Object.fromEntries([...part.matchAll(/(\w+_(?:received|sent|losses|changes)) (\d+)/g)].map(([, key, value]) => [key, value]));
     const rests = numberOf(said.get("current_while")), why = said.get("status"), facts = [];
-    const whole = actor && actor.state & TIMEOUT_BIT ? 30 : 900;
+    const whole = actor && actor.state & TEXT_BITS.SHORT ? 30 : 900;
     if (actor && rests !== null && receive.startsWith("CURRENT") && rests < overdueIn(actor)) facts.push(`its last LACPDU came ${(whole - rests) / 10} s ago: the next is overdue, and the link still counts as heard`);
     if (whyNot(why)) facts.push(`lagd says: ${why}`);
     if (said.has("other system")) facts.push(`another system speaks: ${said.get("other system")}`);
@@ -396,6 +387,7 @@ const FORMS = [
     [/^---- .* ----\s*$/m, showOf],
     [/^setup:\s*\n\s+runner: \S/m, teamText],
     [/^\s*bond(_slave)? .*\b(lacp_rate|ad_aggregator_id|mode) /m, ipLinkOfText],
+    ...SWITCH_FORMS,
 ];
 
 /* A text as people paste it: without carriage returns, colours, marks of a quotation, and indentation that all lines have. */

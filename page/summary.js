@@ -1,17 +1,23 @@
 /* What is said before all else: of each link in one line whether it carries, and why not; and a headline. */
 
 import { addressOf, isKnown, isSilent, machinesOf, muxSaid, namesLast, roundedSeconds } from "./records.js";
-import { astrayIn, capitalized, counted, distinct, groupOf, isCrossed, joinedBy, keyGroups, linkName } from "./keys.js";
-import { CAUSELESS, EFFECT, FAULT, PAST, REMARK } from "./causes.js";
+import { areByPartner, astrayIn, BY_PARTNER, capitalized, counted, distinct, groupOf, isCrossed, joinedBy, keyGroups, linkName } from "./keys.js";
+import { NOBODY_ANSWERS } from "./cases.js";
+import { CAUSELESS, EFFECT, FAULT, PAST, REMARK, TWO_DEVICES } from "./causes.js";
 import { flowSaid } from "./hashes.js";
 
 export const CARRIES = "carries";
 export const CARRIES_APART = "carries apart";
+const CARRY = "carry";
 export const ALONE = "is in use by itself";
 export const IDLE = "does not carry";
 export const UNKNOWN = "not seen";
+/* Of more names the others are counted. */
+const MOST_RUNS = 6;
 /* Of more bundles a headline does not name the links. */
 const MOST_LAGS = 4;
+/* Rules of one link: a headline names it. Others compare links, or have their own words. */
+const ON_ONE_LINK = [5, 9, 10, 11, 12, 14, 17, 18, 22, 23];
 /* So many seconds apart two ends that hear nobody lost each other together. */
 const TOGETHER = 2;
 
@@ -37,6 +43,7 @@ function keyDifference(link, groups) {
 /* That links which carry, and share a system and its key with this one, lead to another system; nothing where none does. */
 function systemDifference(link, groups) {
     const group = groupOf(link, groups), own = group?.find((it) => it.link === link);
+    if (own && areByPartner(group)) return "";
     const said = (way) => {
         const others = group.filter((it) => it.link.carries && it.joins[way] === own.joins[way] && it.systems[1 - way] !== own.systems[1 - way]);
         const far = distinct(others.map((it) => it.systems[1 - way])), isOne = (system) => addressOf(system) === addressOf(own.systems[1 - way]);
@@ -58,32 +65,38 @@ function deafEnds(ends) {
     return lost.filter((it) => lostSince(it) - first < TOGETHER);
 }
 
+/* How a link is, and why; `brief` is the same in a few words, `isVague` that it says no more than the states of both ends, `isSaid` that one end says that it
+ * carries, and the other direction was not captured, `isOneWay` that a direction is missing. */
+const ONE_WAY = { isOneWay: true };
+const idle = (why, brief, more = {}) => ({ how: IDLE, why, brief, ...more });
+const unseen = (why, brief, more = {}) => ({ how: UNKNOWN, why, brief, ...more });
+
 /* Why a link with one end in the capture is not seen to carry. An end that nobody answers uses no link alone beside those that carry. */
 function ofOneEnd(end, { until }, beside) {
-    if (!end.last) return [UNKNOWN, "no LACPDU of it could be read"];
-    if (end.named === end.system) return [IDLE, `${end.short} hears itself: a loop`];
-    if (isSilent(end, until)) return [IDLE, `${end.short} sends nothing after ${roundedSeconds(end.record.last)}, and nobody else speaks here`];
-    if (end.distributes && isKnown(end.named)) return [UNKNOWN, `${end.short} says that it carries; the other direction is not in this capture`];
-    if (isKnown(end.named)) return [UNKNOWN, `${end.short} alone is in this capture: it names ${addressOf(end.named)}`];
+    if (!end.last) return unseen("no LACPDU of it could be read", "not read", ONE_WAY);
+    if (end.named === end.system) return idle(`${end.short} hears itself: a loop`, "a loop");
+    if (isSilent(end, until)) return idle(`nothing comes from ${end.short} after ${roundedSeconds(end.record.last)}, and nobody else speaks here`, "silent", ONE_WAY);
+    if (end.distributes && isKnown(end.named)) return unseen(`${end.short} says that it carries; the other direction is not in this capture`, "one direction captured", { isSaid: true, ...ONE_WAY });
+    if (isKnown(end.named)) return unseen(`${end.short} alone is in this capture: it names ${addressOf(end.named)}`, "one direction captured", ONE_WAY);
     const why = end.has("active") ? `nobody answers ${end.short}` : `${end.short} is passive, and nobody answers it`;
-    return beside.some((it) => it.carries && it.ends.some((other) => other?.system === end.system)) ? [IDLE, why] : [UNKNOWN, `${why}; it may use the link alone`];
+    return beside.some((it) => it.carries && it.ends.some((other) => other?.system === end.system)) ? idle(why, "nobody answers", ONE_WAY) : unseen(`${why}; it may use the link alone`, "nobody answers", ONE_WAY);
 }
 
-/* Whether a link with both ends carries, and why not; and whether that says no more than their states. `beside` are the links of its systems. */
+/* Whether a link with both ends carries, and why not. `beside` are the links of its systems. */
 function ofBothEnds(link, groups, beside) {
     const { ends, until } = link, silent = ends.filter((it) => isSilent(it, until)), deaf = deafEnds(ends);
-    const keys = keyDifference(link, groups) || systemDifference(link, groups);
-    if (link.early?.carries) return [UNKNOWN, "it carries"];
-    if (link.carries) return keys ? [CARRIES_APART, `both ways: ${keys}`] : [CARRIES, "both ways"];
+    const differs = keyDifference(link, groups), keys = differs || systemDifference(link, groups), brief = differs ? "another key" : "another system";
+    if (link.early?.carries) return unseen("it carries", "carries, then ends");
+    if (link.carries) return keys ? { how: CARRIES_APART, why: `both ways: ${keys}`, brief } : { how: CARRIES, why: "both ways", brief: "" };
     const [one, other] = ends.map((it) => it.system), isOwn = one === other || (deaf.length > 0 && addressOf(one) === addressOf(other));
-    if (isOwn) return [IDLE, "both ends have one system: a loop, or a copied identifier"];
-    if (ends.every((it) => !it.has("active"))) return [IDLE, "both ends are passive"];
-    if (silent.length === 1) return [IDLE, `${silent[0].short} sends nothing after ${roundedSeconds(silent[0].record.last)}`];
-    if (silent.length) return [IDLE, `nothing is sent on it after ${roundedSeconds(Math.max(...silent.map((it) => it.record.last)))}`];
-    if (keys && !deaf.length) return [IDLE, keys];
-    if (deaf.length) return [IDLE, `${deaf.map((it) => it.short).join(" and ")} ${deaf.length === 1 ? "hears" : "hear"} nobody`];
+    if (isOwn) return idle("both ends have one system: a loop, or a copied identifier", "one system");
+    if (ends.every((it) => !it.has("active"))) return idle("both ends are passive", "both passive");
+    if (silent.length === 1) return idle(`nothing comes from ${silent[0].short} after ${roundedSeconds(silent[0].record.last)}`, "nothing more comes", ONE_WAY);
+    if (silent.length) return idle(`nothing is sent on it after ${roundedSeconds(Math.max(...silent.map((it) => it.record.last)))}`, "silent");
+    if (keys && !deaf.length) return idle(keys, brief);
+    if (deaf.length) return idle(`${deaf.map((it) => it.short).join(" and ")} ${deaf.length === 1 ? "hears" : "hear"} nobody`, "hears nobody", { isOneWay: deaf.length === 1 });
     const [stray] = ends.filter((it, way) => !namesLast(it, ends[1 - way]));
-    if (stray) return [IDLE, `${stray.short} names ${addressOf(stray.named)} port ${stray.last.partner.port.split("/")[1]} as its partner`];
+    if (stray) return idle(`${stray.short} names ${addressOf(stray.named)} port ${stray.last.partner.port.split("/")[1]} as its partner`, "another partner");
     return ofOtherGroup(link, beside) ?? ofStates(ends);
 }
 
@@ -92,15 +105,15 @@ function ofOtherGroup(link, beside) {
     const keysOf = ({ ends }) => ends.map((it) => it.last.actor.key), own = keysOf(link), up = beside.filter((it) => it !== link && it.carries && it.ends.every((end) => end?.last)).map(keysOf);
     if (!up.length || !up.every((keys) => keys.every((key, way) => key !== own[way]))) return null;
     const said = (keys) => keys[0] === keys[1] ? `key ${keys[0]} at both ends` : `keys ${keys.join(" and ")}`;
-    return [IDLE, `it has ${said(own)}, and the ${up.length === 1 ? "link that carries" : "links that carry"} ${said(up[0])}: another group, as a link of another speed or duplex is to Linux bonding`];
+    return idle(`it has ${said(own)}, and the ${up.length === 1 ? "link that carries" : "links that carry"} ${said(up[0])}: another group, as a link of another speed or duplex is to Linux bonding`, "another group");
 }
 
 /* The same of two ends that hear each other, and have keys that agree. */
 function ofStates(ends) {
     const single = ends.filter((it) => !it.has("aggregatable")), waits = ends.filter((it) => !it.has("synchronized"));
-    if (waits.length === 1) return [IDLE, `${waits[0].short} has not attached it: another aggregator is in use there, or it has links enough`];
-    if (single.length === 1) return [IDLE, `${single[0].short} is individual`];
-    return [IDLE, ends.map((it) => `${it.short} ${muxSaid(it.last.actor.state)}`).join("; "), "is vague"];
+    if (waits.length === 1) return idle(`${waits[0].short} has not attached it: another aggregator is in use there, or it has links enough`, "not attached");
+    if (single.length === 1) return idle(`${single[0].short} is individual`, "individual");
+    return idle(ends.map((it) => `${it.short} ${muxSaid(it.last.actor.state)}`).join("; "), "not attached yet", { isVague: true });
 }
 
 /* Up to when that is so, where the file of a link ends before others. */
@@ -110,9 +123,9 @@ const upToSaid = ({ early, until }) => early ? `${early.carries ? "" : ","} up t
 function lineOf(link, groups, beside) {
     const heard = link.ends.filter((it) => it?.last), isWhole = heard.length === 2;
     if (!heard.length) return null;
-    const [how, why, isVague] = isWhole ? ofBothEnds(link, groups, beside) : ofOneEnd(heard[0], link, beside), [{ label }] = heard;
+    const said = isWhole ? ofBothEnds(link, groups, beside) : ofOneEnd(heard[0], link, beside), [{ label }] = heard;
     const far = isWhole ? "" : isKnown(heard[0].named ?? "") ? ` - ${addressOf(heard[0].named)}` : " - nobody", ends = `${heard.map((it) => it.short).join(" - ")}${far}`;
-    return { link, port: heard[0].port, name: label ? `${label} (${ends})` : ends, how, why: `${why}${upToSaid(link)}`, isVague };
+    return { ...said, link, port: heard[0].port, at: linkName(link), name: label ? `${label} (${ends})` : ends, why: `${said.why}${upToSaid(link)}` };
 }
 
 /* The lines of all links, those that do not carry first; beside links, each file of them without an LACPDU is one, too. */
@@ -120,13 +133,33 @@ export function linesOf(records, bundles) {
     const groups = keyGroups(bundles), ofBundle = ({ links }) => links.filter((it) => !it.isPast).map((it) => lineOf(it, groups, links));
     const lines = bundles.flatMap(ofBundle).filter(Boolean);
     lines.sort((one, other) => one.port - other.port);
-    const whyOf = (name) => `no LACPDU is in the file ${name}: if it is of the bond itself, which has none, leave it out. Else neither end sends on that link, as where LACP is off, or both ends are passive`;
-    if (lines.length) lines.push(...records.silent.map((name) => ({ link: null, name, how: IDLE, why: whyOf(name) })));
+    const whyOf = ({ name, where, unless }) => `no LACPDU is ${where} ${name}: if ${unless}, leave it out. Else neither end sends on that link, as where LACP is off, or both ends are passive`;
+    if (lines.length) lines.push(...records.silent.map((it) => ({ link: null, at: it.name, name: it.name, ...idle(whyOf(it), "no LACPDU", ONE_WAY) })));
     return [IDLE, CARRIES_APART, UNKNOWN, CARRIES].flatMap((how) => lines.filter((it) => it.how === how));
 }
 
 /* A line as a text. */
-export const textOfLine = ({ name, how, why }) => `${name}: ${how}${[CARRIES_APART, CARRIES].includes(how) ? ", " : ": "}${why}`;
+export const textOfLine = ({ name, how, why }) => `${name}: ${how}${[CARRIES_APART, CARRIES, CARRY].includes(how) ? ", " : ": "}${why}`;
+
+/* Names as one text: of those that number on the first and the last. */
+function runsOf(names) {
+    const runs = [];
+    for (const name of names) {
+        const [, stem, number] = /^(.*?)(\d*)$/.exec(name), run = runs.at(-1);
+        if (run && number && run.stem === stem && Number(number) === run.next) run.names.push(name);
+        else runs.push({ stem, names: [name] });
+        runs.at(-1).next = Number(number) + 1;
+    }
+    const said = runs.flatMap(({ names: all }) => all.length > 2 ? [`${all[0]} to ${all.at(-1)}`] : all);
+    return said.length > MOST_RUNS ? `${said.slice(0, MOST_RUNS).join(", ")} and ${said.length - MOST_RUNS} more` : joinedBy(said);
+}
+
+/* The lines, with those that carry as one, where one does not: `folded` are the lines that it stands for. */
+export function foldedLines(lines) {
+    const up = lines.filter(({ how }) => how === CARRIES), isSame = up.every(({ why }) => why === up[0].why);
+    if (up.length < 2 || up.length === lines.length || !isSame) return lines;
+    return [...lines.filter((it) => !up.includes(it)), { name: runsOf(up.map(({ at }) => at)), how: CARRY, why: up[0].why, folded: up }];
+}
 
 /* What a headline says of links. */
 export const howManyCarry = (carry, all) => `${carry} of ${counted(all, "link")} ${carry === 1 || all === 1 ? "carries" : "carry"}`;
@@ -167,11 +200,12 @@ function ofHealthy(lines, causes) {
     const past = causes.filter(({ kind }) => kind === PAST), links = all === 1 ? "The link carries" : `${all} links carry`, cause = past.find((it) => it.wasFault);
     const since = past.length ? `, since ${roundedSeconds(Math.max(...past.map((it) => it.until)))}` : "";
     if (cause) return [`${links}, both ways${since}. Before, ${cause.title}.`, ""];
-    const twins = causes.find(({ kind, rule }) => kind === REMARK && rule === null);
+    const twins = causes.find(({ kind, title }) => kind === REMARK && title === TWO_DEVICES), byPartner = causes.find(({ kind, title }) => kind === REMARK && title === BY_PARTNER);
     if (twins) return [`${links}, both ways${since}. ${capitalized(twins.title)}: right if they are an MLAG pair.`, ""];
     if (lags.length > 1) {
         const named = lags.length > MOST_LAGS ? "" : `: ${lags.map(joinedBy).join("; ")}`, flow = lags.some((it) => it.length > 1) ? ` ${flowSaid([])}` : "";
-        return [`${links}, both ways${since}, as ${lags.length} bundles${named}. ${strangersAmong(lines).length === lags.length ? SHARE_NOTHING : MEANT_AS_ONE}${flow}`, ""];
+        const meant = byPartner ? byPartner.advice : strangersAmong(lines).length === lags.length ? SHARE_NOTHING : MEANT_AS_ONE;
+        return [`${links}, both ways${since}, as ${lags.length} bundles${byPartner ? ", by partner" : ""}${named}. ${meant}${flow}`, ""];
     }
     return [all === 1 ? `${links}, both ways${since}. ${ONE}` : `${links}, both ways${since}: LACP is not your trouble. ${flowSaid([])}`, "good"];
 }
@@ -189,14 +223,30 @@ export function headlineOf(lines, causes, unknown, apart) {
     return before && said ? [`${before} ${said}`, "bad"] : [said, look];
 }
 
+/* Links of which one direction was captured, and its end says that they carry. */
+function saidAlone(those, all) {
+    const whole = "the other direction was not captured. Capture both (tcpdump without -Q), or at the other end.";
+    if (those.length === all) return `this end says that ${all === 1 ? "it carries" : "they carry"}; ${whole}`;
+    return `Of ${joinedBy(those.map(({ link }) => linkName(link)))} this end says that ${those.length === 1 ? "it carries" : "they carry"}; ${whole}`;
+}
+
+/* A cause as a headline has it: one of a single link of several names that. */
+function causeNamed(cause, lines) {
+    const links = distinct(cause.findings.map((it) => lines.find(({ link }) => link?.ends.includes(it.at))?.link)), [link] = links;
+    if (cause.head) return cause.head;
+    return links.length === 1 && link && lines.length > 1 && ON_ONE_LINK.includes(cause.rule) ? `${cause.title}${cause.title === NOBODY_ANSWERS ? " on " : ": "}${linkName(link)}` : cause.title;
+}
+
 /* How many links carry, and the first cause; with how it looks. */
 function headlineIn(lines, causes) {
-    const [cause] = causes.filter(({ kind }) => kind === FAULT), all = lines.length;
+    const [cause] = causes.filter(({ kind }) => kind === FAULT), all = lines.length, alone = lines.filter(({ isSaid, link }) => isSaid && !link.early);
     const those = lines.filter(({ how }) => how === CARRIES_APART), apart = those.length;
     const carry = apart + lines.filter(({ how }) => how === CARRIES).length, more = causes.filter(({ kind }) => kind === FAULT).length - 1;
     const head = `${howManyCarry(carry, all)}${apart && carry > 1 ? `, ${apartSaid(those, all)}` : ""}`;
-    if (cause) return [`${all ? `${head}. ` : ""}${capitalized(cause.title)}${more ? `, and ${counted(more, "more cause")}` : ""}.`, "bad"];
+    if (cause) return [`${all ? `${head}. ` : ""}${capitalized(causeNamed(cause, lines))}${more ? `, and ${counted(more, "more cause")}` : ""}.`, "bad"];
     if (!all) return ["", ""];
+    if (alone.length === all) return [`${all} of ${counted(all, "link")}: ${saidAlone(alone, all)}`, ""];
+    if (alone.length && carry - apart + alone.length === all) return [`${head}. ${saidAlone(alone, all)}`, ""];
     const idle = lines.find(({ how, isVague }) => how === IDLE && !isVague);
     if (idle) return [`${head}. ${capitalized(idle.why)}; ${CAUSELESS}`, ""];
     if (carry - apart < all) return [`${head}. No cause is in this capture: ask both ends, and capture all links for 100 s.`, ""];

@@ -239,7 +239,7 @@ def of_silence(tests: Tests, browser: Browser, folder: str) -> None:
     made.pcap(path, [(0.0, bytes([255] * 6 + [2, 0, 0, 0, 0, 1]) + b"\x08\x06" + bytes(46))])
     browser.choose(path)
     said = browser.value("document.getElementById('verdict').textContent")
-    tests.same("without an LACPDU it asks whether LACP is on", [it in said for it in ("No frame", "passive at both", "active, not on", "mode=802.3ad", "capture its members")], [True] * 5)
+    tests.same("without an LACPDU it asks whether LACP is on", [it in said for it in ("No LACPDU", "passive at both", "active, not on", "mode=802.3ad", "capture its members")], [True] * 5)
 
 
 def of_unread(tests: Tests, browser: Browser, folder: str) -> None:
@@ -259,7 +259,7 @@ def of_unread(tests: Tests, browser: Browser, folder: str) -> None:
         tests.same(f"{name} of the frames could be read: the page says so", browser.value(VERDICT), wanted)
     made.pcap(path, [(0.0, oam[0])])
     browser.choose(path)
-    tests.same("OAM alone is no LACP", browser.value(VERDICT)[0].startswith("No frame of the slow protocols (LACPDU, Marker PDU)"), True)
+    tests.same("OAM alone is no LACP", browser.value(VERDICT)[0].startswith("No LACPDU is in this capture."), True)
 
 
 def of_lasting(tests: Tests, browser: Browser, folder: str) -> None:

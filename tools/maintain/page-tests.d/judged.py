@@ -104,7 +104,8 @@ def of_bonds_alike(tests: Tests) -> None:
         seens = [said.count(seen.replace("p", port)) for port in "pq"]
         tests.same(f"two bonds, {name}", [ended, *wanted, *seens, *(advice.format(f"{port}1, {port}2") in said for port in "pq"), f"\n3. {title}" in said], [1, True, True, 1, 1, True, True, False])
         tests.same(f"two bonds, {name}: advice", said.count(advice.format("p1, p2")) + said.count(advice.format("q1, q2")), 2 if "{}" in advice else 4)
-        tests.same(f"two bonds, {name}: lines", sorted(it.split(" (")[0] for it in said.splitlines() if " (partner " in it), [f"  bond{at} {port}{number}" for at, port in enumerate("pq") for number in (1, 2)])
+        lines = re.findall(r"^  (bond\d [pq]\d)(?: and (bond\d [pq]\d): carry)?", said, re.M)
+        tests.same(f"two bonds, {name}: lines", sorted(it for pair in lines for it in pair if it), [f"bond{at} {port}{number}" for at, port in enumerate("pq") for number in (1, 2)])
 
 
 def of_bonds_apart(tests: Tests) -> None:

@@ -148,3 +148,21 @@ def crowd(path: str, count: int) -> None:
 def led(ends: Iterable[tuple[int, Party]]) -> list[Packets]:
     """Links of system 1, one behind the other, with these keys to these ends; all carry."""
     return [exchange(Party(1, key, port, FAST), far, at(port / 100, 20)) for port, (key, far) in enumerate(ends, 1)]
+
+
+def interfaces(path: str, links: Iterable[tuple[str, Packets]]) -> None:
+    """A capture of several interfaces as pcapng, each with its name and what is seen there."""
+    given = list(links)
+    packets = sorted((seconds, number, octets) for number, (_, seen) in enumerate(given) for seconds, octets in seen)
+    with open(path, "wb") as out:
+        out.write(HEAD)
+        for name, _ in given:
+            out.write(block(1, struct.pack("<HHI", 1, 0, 0) + option(2, name.encode()) + option(0, b"")))
+        for seconds, number, octets in packets:
+            time = int((1_700_000_000 + seconds) * 1e6)
+            out.write(block(6, struct.pack("<IIIII", number, time >> 32, time & 0xFFFFFFFF, len(octets), len(octets)) + octets + bytes(-len(octets) % 4)))
+
+
+def arps(count: int) -> Packets:
+    """Frames that have nothing to do with LACP."""
+    return [(float(it), bytes([255] * 6 + [2, 0, 0, 0, 9, 9]) + b"\x08\x06" + bytes(46)) for it in range(count)]

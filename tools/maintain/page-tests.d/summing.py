@@ -10,7 +10,8 @@ from browser import Browser
 from stored import Tests
 from texts import explain, told_first
 
-LINES = "[...document.querySelectorAll('#lines > li')].map((it) => it.textContent)"
+LINES = ("[...document.querySelectorAll('#lines > li')].flatMap((it) => { const part = it.querySelector('details'); part?.fill(); return part ? [...part.querySelectorAll('li')] : [it]; })"
+         ".map((it) => it.textContent)")
 HEADLINE = "document.getElementById('verdict').textContent"
 CAUSES = "[...document.querySelectorAll('#findings > li')].map((it) => it.querySelector('strong, summary').firstChild.textContent)"
 ADVICE = "[...document.querySelectorAll('#findings > li > span')].map((it) => it.textContent).join(' ')"
@@ -82,7 +83,7 @@ def of_crossing(tests: Tests, browser: Browser, folder: str) -> None:
     headline, causes, _ = said_of(browser, path, *made.led((7, it) for it in prior))
     several = "inks lead to one address with several system priorities"
     tests.same("one address with two system priorities", [headline, causes], [f"2 of 2 links carry, {EACH}. L{several}.", [f"L{several}"]])
-    for far, how, where in ((2, 3), EACH, "the other link"), ((2, 2, 3, 3), "as 2 groups, of which a bond uses one", "other links"):
+    for far, how, where in ((2, 3), EACH, "the other link"), ((2, 2, 3), "as 2 groups, of which a bond uses one", "the other link"):
         headline, _, lines = said_of(browser, path, *made.led((7, made.Party(it, 8, port, made.FAST)) for port, it in enumerate(far, 1)))
         wanted = [f"{len(far)} of {len(far)} links carry, {how}. Links of one system lead to two systems.", f"carries apart, both ways: {SYSTEM}1 leads to {SYSTEM}3 on {where}"]
         tests.same(f"{len(far)} links to two switches", [headline, lines[0].split(": ", 1)[1]], wanted)
@@ -133,13 +134,13 @@ def of_ends(tests: Tests, browser: Browser, folder: str) -> None:
     seldom = [made.sends(other, one._replace(state=made.UP), made.at(0.004, 0, 100, 30)),
               made.sends(one, other, each(30, 4)), made.sends(expired, other, each(30, 4, 8))]  # fmt: skip
     cases: dict[str, tuple[list[made.Packets], str, list[str], list[str]]] = {
-        "an end that sends no more": (dead, "1 of 2 links carries. An end sends nothing more.", ["An end sends nothing more"],
-                                      [link(2, f"does not carry: {SYSTEM}1 port 2 sends nothing after 19.1 s"), link(1, up)]),
-        "a link that goes down, one end of which sends each 30 s": (silent, "1 of 2 links carries. Both ends of a link are silent.", ["Both ends of a link are silent"],
-                                                                    [link(2, f"does not carry: {SYSTEM}1 port 2 sends nothing after 8.1 s"), link(1, up)]),
+        "an end that sends no more": (dead, "1 of 2 links carries. Nothing more comes from an end: ports 2-2.", ["Nothing more comes from an end"],
+                                      [link(2, f"does not carry: nothing comes from {SYSTEM}1 port 2 after 19.1 s"), link(1, up)]),
+        "a link that goes down, one end of which sends each 30 s": (silent, "1 of 2 links carries. Both ends of a link are silent: ports 2-2.", ["Both ends of a link are silent"],
+                                                                    [link(2, f"does not carry: nothing comes from {SYSTEM}1 port 2 after 8.1 s"), link(1, up)]),
         "an end whose last LACPDU is late": (late, "1 of 1 link carries. No LACPDU for longer than the partner's timeout.", ["No LACPDU for longer than the partner's timeout"], [link(1, up)]),
         "a link that goes down": ([made.exchange(one, other, range(60)), made.exchange(near, far, made.at(0.1, 20))],
-                                  "1 of 2 links carries. Both ends of a link send nothing more.", ["Both ends of a link send nothing more"],
+                                  "1 of 2 links carries. Both ends of a link send nothing more: ports 2-2.", ["Both ends of a link send nothing more"],
                                   [link(2, "does not carry: nothing is sent on it after 19.1 s"), link(1, up)]),
         "a link that comes and goes": ([made.exchange(one, other, [*range(11), *range(17, 28), *range(34, 60)])],
                                        "1 of 1 link carries. A link is silent at both ends for a while.", ["A link is silent at both ends for a while"], [link(1, up)]),
@@ -169,7 +170,7 @@ def of_ends(tests: Tests, browser: Browser, folder: str) -> None:
         tests.same(name, said_of(browser, path, *parts), [headline, causes, lines])
     said_of(browser, path, *dead)
     said, slowed = browser.value("document.getElementById('findings').textContent"), f"{SYSTEM}2 port 2 hears nobody since, and sends each 30.0 s alone: a status of {SYSTEM}1 port 2 says that it hears nobody, too"
-    words = "lacp_rate", "If this was captured at its partner, the path may lose what it sends: capture at this end, too.", slowed
+    words = "lacp_rate", "Captured at its partner, two things look alike: it sends no more", slowed
     tests.same("of a dead end: lacp_rate is not blamed, the path may be, and its own status has the one direction as two", [it in said for it in words], [False, True, True])
     alone = "The link carries, both ways. It is one link: of a bundle capture all links, since keys and partners are compared between them."
     tests.same("one link of a bundle", said_of(browser, path, *made.keyed([(10, 10)])), [alone, [], [link(1, up)]])
@@ -236,7 +237,7 @@ def of_times(tests: Tests, browser: Browser, folder: str) -> None:
     of its time does so since its link fell silent, or since its capture was stopped: both are told, and the link does not count as one that carries."""
     words = "These captures are of different times ({}): capture all links at once. As if they were of one time: "
     after = "eth1: 0.0 to 59.1 s; eth2: 90.0 to 149.1 s"
-    both, keys, one = f"2 links carry, both ways: {HASH}", "1 of 2 links carries. Keys differ within one pair of systems.", f"1 of 2 links carries. {EARLY}."
+    both, keys, one = f"2 links carry, both ways: {HASH}", "1 of 2 links carries. Keys differ within one pair of systems.", f"1 of 2 links carries. {EARLY}: eth2."
     cases = {
         "one behind the other": ([range(60), range(90, 150)], (8, 8), words.format(after) + both, True),
         "one behind the other, with two keys": ([range(60), range(90, 150)], (9, 8), words.format(after) + keys, True),
@@ -245,8 +246,8 @@ def of_times(tests: Tests, browser: Browser, folder: str) -> None:
         "of which one ends early": ([range(60), range(20)], (8, 8), one, False),
         "of which one ends 4 s before the other": ([range(60), range(56)], (8, 8), one, False),
         "of which one ends 2 s before the other": ([range(60), range(58)], (8, 8), both, False),
-        "of which one ends early, and one begins late": ([range(50), range(25, 100)], (8, 8), one, False),
-        "begun 10 s apart": ([range(60), range(10, 70)], (8, 8), one, False),
+        "of which one ends early, and one begins late": ([range(50), range(25, 100)], (8, 8), one.replace("eth2", "eth1"), False),
+        "begun 10 s apart": ([range(60), range(10, 70)], (8, 8), one.replace("eth2", "eth1"), False),
     }
     for name, (times, two, headline, is_moved) in cases.items():
         paths = links_at(folder, times, two, up=made.UP if "long" in name else made.FAST)
@@ -268,16 +269,16 @@ def of_early(tests: Tests, folder: str) -> None:
     dead = [*made.sends(one, other, range(9)), *made.sends(other, one, made.at(0.1, 24))]
     taken = [*whole, *made.sends(one._replace(state=made.FAST & ~4), other, [60.0])]
     deaf = [*made.sends(one._replace(state=made.DEFAULTED), None, range(60)), *made.sends(other._replace(state=made.FAST_DOWN), one, made.at(0.1, 60))]
-    early, not_seen, cut = f"{EARLY}.", "not seen: it carries up to {} s, where its file ends", "The file of a link is cut short."
+    early, not_seen, cut = f"{EARLY}: eth2.", "not seen: it carries up to {} s, where its file ends", "The file of a link is cut short."
     cases = {
         "stopped, or dead": (whole, early, not_seen.format("59.0"), 1),
-        "of a link with a pause": ([it for it in whole if not 9 < it[0] < 16], "A link is silent at both ends for a while, and 1 more cause.", not_seen.format("59.0"), 1),
+        "of a link with a pause": ([it for it in whole if not 9 < it[0] < 16], "A link is silent at both ends for a while: eth2, and 1 more cause.", not_seen.format("59.0"), 1),
         "of a link that does not carry yet": (down, early, "attaches, up to 9.0 s, where its file ends", 1),
-        "of a link that hears nobody": (deaf, "An end hears nobody for longer than 6 seconds, and 1 more cause.", "port 2 hears nobody, up to 59.1 s, where its file ends", 1),
-        "of one direction": (made.sends(one, other, range(60)), "LACPDUs in one direction only, and 1 more cause.", "is not in this capture, up to 59.0 s, where its file ends", 1),
-        "of a port that is taken out": (taken, "A port is taken out of its bundle.", "up to 60.0 s, where its file ends", 1),
-        "with other packets behind": ([*whole, *data], "Both ends of a link send nothing more.", "does not carry: nothing is sent on it after 59.0 s", 1),
-        "of which an end is dead before": (dead, "An end sends nothing more.", f"does not carry: {SYSTEM}1 port 2 sends nothing after 8.0 s", 1),
+        "of a link that hears nobody": (deaf, "An end hears nobody for longer than 6 seconds: eth2, and 1 more cause.", "port 2 hears nobody, up to 59.1 s, where its file ends", 1),
+        "of one direction": (made.sends(one, other, range(60)), early, "is not in this capture, up to 59.0 s, where its file ends", 1),
+        "of a port that is taken out": (taken, "A port is taken out of its bundle: eth2.", "up to 60.0 s, where its file ends", 1),
+        "with other packets behind": ([*whole, *data], "Both ends of a link send nothing more: eth2.", "does not carry: nothing is sent on it after 59.0 s", 1),
+        "of which an end is dead before": (dead, "Nothing more comes from an end: eth2.", f"does not carry: nothing comes from {SYSTEM}1 port 2 after 8.0 s", 1),
         "cut short": (whole, cut, not_seen.format("58.0").replace("ends", "is cut short"), 2),
     }
     for name, (packets, cause, line, status) in cases.items():
@@ -289,7 +290,7 @@ def of_early(tests: Tests, folder: str) -> None:
         found = [ended.returncode, headline, first.endswith(line), EARLY.lower() in ended.stdout.lower(), ended.stderr.startswith("lagtool: cannot read eth2.pcap: octet ")]
         tests.same(f"a file that ends early, {name}", found, [status, f"1 of 2 links carries. {cause}", True, not ("packets" in name or "dead before" in name or status == 2), status == 2])
     made.capture(paths[0], made.exchange(*made.one_link(made.FAST), range(100)), made.exchange(one, other, range(60)))
-    tests.same("a link that falls silent, in one file", told_first(explain(paths[0])), [1, "1 of 2 links carries. Both ends of a link send nothing more."])
+    tests.same("a link that falls silent, in one file", told_first(explain(paths[0])), [1, "1 of 2 links carries. Both ends of a link send nothing more: ports 2-2."])
 
 
 def of_one_source(tests: Tests, browser: Browser, folder: str) -> None:
@@ -306,9 +307,9 @@ def of_packed(tests: Tests, folder: str) -> None:
         path = os.path.join(folder, f"eth9.pcap.{name}")
         with open(path, "wb") as out:
             out.write(begin + bytes(40))
-        for given, at in ([path], "octet 0: "), ([path, path], ""):
+        for given in [path], [path, path]:
             ended = explain(*given)
-            wanted = [2, "", f"lagtool: cannot read eth9.pcap.{name}: {at}packed by {name}: unpack it first"]
+            wanted = [2, "", f"lagtool: cannot read eth9.pcap.{name}: packed by {name}: unpack it first"]
             tests.same(f"{len(given)} captures, packed by {name}", [ended.returncode, ended.stdout, ended.stderr.splitlines()[0]], wanted)
 
 

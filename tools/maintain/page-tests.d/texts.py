@@ -89,7 +89,7 @@ def of_words(tests: Tests) -> None:
         ended = explain(path)
         tests.same(f"explain: {why}", [ended.returncode, ended.stderr], [2, f"lagtool: cannot read {path}: {why}\n"])
     ended = explain(text, capture)
-    apart = f"lagtool: captures and texts are explained apart: give {capture} without {text}\n"
+    apart = "lagtool: captures and texts are explained apart: give bonding.pcap without keys-bonding.txt\n"
     tests.same("explain of a text and a capture says what to give", [ended.returncode, ended.stderr], [2, apart])
     for given in ["explain", "--help"], ["--help"]:
         ended = subprocess.run([os.path.join(TOOLS, "lagtool"), *given], stdin=subprocess.DEVNULL, capture_output=True, text=True)

@@ -13,7 +13,7 @@ from repository import TOP, Missing, read_text
 PARTS = os.path.join(TOP, "page")
 # The modules in the order in which each has what it imports.
 SCRIPTS = (
-    "module records keys cases past causes hashes summary shapes packets spans files status advice implied both standing fields octets timeline viewing saving capture pasting script report diagram playing payload page"
+    "module records identities keys cases past causes hashes summary shapes packets spans files readings switches status advice implied both standing verdict picture fields octets timeline viewing saving capture pasting script report diagram playing payload page"
 ).split()
 EXAMPLES = os.path.join(TOP, "examples")
 EXAMPLE = os.path.join(EXAMPLES, "captures", "unequal-keys.pcapng")
