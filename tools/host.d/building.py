@@ -5,6 +5,7 @@ from __future__ import annotations
 import glob
 import hashlib
 import os
+import pathlib
 import re
 import shutil
 import subprocess
@@ -12,7 +13,7 @@ from typing import Callable, NamedTuple
 
 from fetched import Source, Sources
 from library import HEADER, PORTABLE, PORTABLE_SHOWS, archive, one_object, portable, proved
-from repository import TOP, Missing, read_bytes, read_text, say, want
+from repository import TOP, Missing, read_bytes, read_text, say, want, write_text
 
 HOSTS = os.path.join(TOP, "hosts")
 SHARED = os.path.join(HOSTS, "shared")
@@ -120,6 +121,15 @@ def is_built(folder: str, word: str) -> bool:
         return read_text(f"{folder}.stamp") == word and os.path.isdir(folder)
     except OSError:
         return False
+
+
+def once(folder: str, word: str, make: Callable[[], object]) -> None:
+    """Makes a folder, if it is not of this stamp already. What is stopped meanwhile has no stamp."""
+    if is_built(folder, word):
+        return
+    pathlib.Path(f"{folder}.stamp").unlink(missing_ok=True)
+    make()
+    write_text(f"{folder}.stamp", word)
 
 
 def before(names: tuple[str, ...]) -> Callable[[Sources], dict[str, str]]:
