@@ -2,18 +2,15 @@
 
 from __future__ import annotations
 
-import contextlib
 import glob
 import os
 import re
 import shutil
-import signal
-import subprocess
 from typing import Callable
 
-import usermode
 from built import HOSTS, REFUSE, UNDEFINED, Built
-from checking import Failed, Skipped, check
+from checking import Skipped, check
+from guests import boot, ended, judge
 from repository import TOP, write_text
 from switches import words_of
 
@@ -72,40 +69,9 @@ def guest(built: Built, script: str, program: str, name: str, *more: str) -> str
         shutil.copytree(f"{folder}/{script}/lib", f"{folder}/{script}/usr/lib", symlinks=True, dirs_exist_ok=True)
         shutil.rmtree(f"{folder}/{script}/lib")
     shutil.copy(program, f"{folder}/{name}")
-    os.makedirs(own, exist_ok=True)
     linux = f"{built.sources.cache}/unpacked/user-mode-linux/usr/bin/linux.uml"
-    said = ["mem=1024M", "root=/dev/root", "rootfstype=hostfs", "rootflags=/", "ro", f"init={TESTS}/init", f"uml_dir={own}", "con=null", "con0=null,fd:1", "ssl=null", "panic=-1", "quiet"]
-    said += [f"SCRIPT={script}", f"TEAMD={name}", f"PLACE={folder}", f"TESTS={TESTS}", f"PROJECT={TOP}", *more]
-    run = subprocess.Popen([linux, *said], stdin=subprocess.DEVNULL, stdout=subprocess.PIPE, stderr=subprocess.DEVNULL, start_new_session=True, env=usermode.environment(built.folder))
-    try:
-        told, _ = run.communicate(timeout=UNDER_VALGRIND if SLOW in more else LONGEST.get(script, USUAL))
-    except subprocess.TimeoutExpired as why:
-        raise Failed(f"{script}: the guest ends in time", (why.stdout or b"").decode(errors="replace")[-1500:]) from why
-    finally:
-        # Also where this tool is ended meanwhile: each process of a guest is one of this machine.
-        with contextlib.suppress(ProcessLookupError):
-            os.killpg(run.pid, signal.SIGKILL)
-        run.wait()
-    return told.decode(errors="replace").replace("\r", "")
-
-
-def ended(told: str) -> bool:
-    """Whether a guest came to its end."""
-    return "guest: done" in told.splitlines()
-
-
-def judge(script: str, told: str) -> None:
-    """Counts what a guest found, and prints its rows."""
-    lines = told.splitlines()
-    for at, line in enumerate(lines):
-        kind, _, what = line.partition(": ")
-        if kind in ("passed", "FAILED"):
-            check(kind == "passed", f"{script}: {what}", *lines[at + 1:at + 3])
-        elif kind == "row":
-            print(line)
-    if any(line.startswith("question ") for line in lines):
-        print("\n".join(line for line in lines if re.match(r"question |[<>] ", line)))
-    check(ended(told), f"{script}: the guest comes to its end", told[-800:])
+    seconds = UNDER_VALGRIND if SLOW in more else LONGEST.get(script, USUAL)
+    return boot(linux, f"{TESTS}/init", built.folder, own, seconds, "mem=1024M", f"SCRIPT={script}", f"TEAMD={name}", f"PLACE={folder}", f"TESTS={TESTS}", f"PROJECT={TOP}", *more)
 
 
 def program(built: Built, own: bool = False, **environment: str) -> str:
