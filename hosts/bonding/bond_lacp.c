@@ -107,7 +107,7 @@ struct lacp_bond *lacp_system_of(struct bonding *bond, bool *waits)
 	return system;
 }
 
-static void lacp_read_views(struct lacp_bond *system)
+void lacp_read_views(struct lacp_bond *system)
 {
 	u8 i;
 
@@ -184,16 +184,6 @@ static struct niw_made lacp_resume(struct lag_end *end, const struct niw_config 
 	}
 }
 
-/* The number of the aggregator that carries the frames of the bond, or 0. */
-static u16 lacp_active_number(const struct lacp_bond *system)
-{
-	u16 number = system->active ? system->placed : 0;
-
-	while (number && system->keys[number - 1] != system->active)
-		number--;
-	return number;
-}
-
 /* Lets the system that was made take the place of the one before. */
 static void lacp_exchange(struct lacp_bond *system, struct lag_end *made, s64 now)
 {
@@ -225,7 +215,8 @@ static void lacp_exchange(struct lacp_bond *system, struct lag_end *made, s64 no
 		if (port->carried && port->was_in == was_in && port->view.aggregator)
 			system->active = system->keys[port->view.aggregator - 1];
 	}
-	lacp_use(system);
+	if (lag_end_use(&system->end, lacp_active_number(system)))
+		lacp_read_views(system);
 }
 
 /* Nothing is there any more: all ports begin anew at a next turn. */
@@ -358,6 +349,22 @@ static void lacp_pass(struct lacp_bond *system, s64 now)
 		}
 }
 
+/* Wakes the ports that are on defaults and carry nothing. */
+static void lacp_wake_ports(struct lacp_bond *system, s64 now)
+{
+	bool woken = false;
+	u8 i;
+
+	for (i = 0; i < system->placed; i++) {
+		struct lacp_port *port = system->keys[i];
+		bool idle = !bond_is_active_slave(port->slave);
+
+		woken |= lag_end_wake(&system->end, &port->view, &port->wake, idle, now);
+	}
+	if (woken)
+		lacp_read_views(system);
+}
+
 /*
  * One turn of the work of a bond; returns whether the list of the slaves that are sent on has to be
  * made anew.
@@ -365,6 +372,7 @@ static void lacp_pass(struct lacp_bond *system, s64 now)
 bool lacp_turn(struct lacp_bond *system)
 {
 	s64 now = lacp_now();
+	bool changed;
 	u8 i;
 
 	/* bond_open has set it: what was known before is too old */
@@ -377,7 +385,9 @@ bool lacp_turn(struct lacp_bond *system)
 	lacp_take_all(system, now);
 	lacp_read_views(system);
 	lacp_choose(system);
-	return lacp_show(system);
+	changed = lacp_show(system);
+	lacp_wake_ports(system, now);
+	return changed;
 }
 
 /* In how many jiffies the next tick is due. */
@@ -397,7 +407,7 @@ static void lacp_say_farewell(struct lacp_port *port, s64 now)
 
 	lacp_pass(port->system, now);
 	niw_configure(&port->system->end.system, port->number, &change);
-	lacp_send_due(port);
+	lacp_send_due(port, now);
 }
 
 /* Takes a port out, and the others go on; with the last one the system goes. */

@@ -33,7 +33,8 @@ struct lacp_port {
 	bool carried;		/* of lacp_remake: it goes on, */
 	u16 was_in;		/* in this aggregator of the system before */
 	struct lag_heard heard;
-	struct lag_limit responses;
+	struct lag_limit limit;
+	struct lag_wake wake;
 	struct niw_view view;
 	struct niw_churn churn;
 	spinlock_t lock;	/* of the frames that wait */
@@ -84,20 +85,21 @@ bool lacp_aggregates(u16 key);
 void *niw_host_malloc(size_t size);
 void *niw_host_realloc(void *at, size_t size);
 void niw_host_free(void *at);
-void lacp_send_due(struct lacp_port *port);
+void lacp_send_due(struct lacp_port *port, s64 now);
 void lacp_send_all(struct lacp_bond *system);
 void lacp_take_all(struct lacp_bond *system, s64 now);
 bool lacp_keep(struct lacp_port *port, const struct sk_buff *skb);
 
 /* Of bond_lacp.c. */
 struct lacp_bond *lacp_system_of(struct bonding *bond, bool *waits);
+void lacp_read_views(struct lacp_bond *system);
 bool lacp_turn(struct lacp_bond *system);
 unsigned long lacp_until_next(const struct lacp_bond *system);
 void lacp_leave(struct lacp_port *port);
 
 /* Of bond_lacp_shown.c. */
 void lacp_choose(struct lacp_bond *system);
-void lacp_use(struct lacp_bond *system);
+u16 lacp_active_number(const struct lacp_bond *system);
 bool lacp_show(struct lacp_bond *system);
 
 #endif

@@ -70,21 +70,22 @@ static void lacp_send(struct slave *slave, const u8 *frame, unsigned int length)
 }
 
 /* Sends what is due on a port. */
-void lacp_send_due(struct lacp_port *port)
+void lacp_send_due(struct lacp_port *port, s64 now)
 {
-	struct niw_system *handle = &port->system->end.system;
+	struct lag_end *end = &port->system->end;
 	u8 frame[NIW_FRAME];
 
-	while (port->placed && niw_transmit(handle, port->number, frame, sizeof(frame)).is)
+	while (port->placed && lag_end_transmit(end, port->number, &port->limit, frame, now).is)
 		lacp_send(port->slave, frame, sizeof(frame));
 }
 
 void lacp_send_all(struct lacp_bond *system)
 {
+	s64 now = lacp_now();
 	u8 i;
 
 	for (i = 0; i < system->placed; i++)
-		lacp_send_due(system->keys[i]);
+		lacp_send_due(system->keys[i], now);
 }
 
 static void lacp_take(struct lacp_port *port, const struct lacp_frame *frame, s64 now)
@@ -100,7 +101,7 @@ static void lacp_take(struct lacp_port *port, const struct lacp_frame *frame, s6
 		break;
 	case NIW_RECEIVED_RESPOND:
 		lacp_count(port->slave, LACP_COUNT(marker_rx));
-		if (lag_may_respond(&port->responses, now))
+		if (lag_may_respond(&port->limit, now))
 			lacp_send(port->slave, response, it.number);
 		break;
 	case NIW_RECEIVED_RELEASED:

@@ -22,12 +22,13 @@ static bool lacp_is_better(const struct lacp_group *best, const struct lacp_grou
 	return other->bandwidth > best->bandwidth;
 }
 
-/* Whether a port carries once its aggregator does, and nothing but its members is in the way. */
+/* Whether a port carries once its aggregator is in use, with a partner or without one. */
 static bool lacp_could_carry(const struct lacp_port *port)
 {
-	return port->up && port->view.aggregator &&
-	       (port->view.receive_state == NIW_RECEIVE_CURRENT ||
-		port->view.receive_state == NIW_RECEIVE_DEFAULTED);
+	const struct niw_view *view = &port->view;
+
+	return lag_is_ready(view) ||
+	       (view->up && view->aggregator && view->receive_state == NIW_RECEIVE_DEFAULTED);
 }
 
 static void lacp_count_groups(struct lacp_bond *system)
@@ -74,21 +75,20 @@ static int lacp_best_group(const struct lacp_bond *system)
 	return lacp_is_better(active, &groups[best], select) ? best : now;
 }
 
-/*
- * The ports of one aggregator attach: that which carries the frames of the bond. The others wait,
- * as their partners are told, and attach at once when their turn comes.
- */
-void lacp_use(struct lacp_bond *system)
+/* The number of the aggregator that carries the frames of the bond, or 0. */
+u16 lacp_active_number(const struct lacp_bond *system)
 {
-#if NIW_VERSION >= 13
-	u8 i;
+	u16 number = system->active ? system->placed : 0;
 
-	for (i = 0; i < system->placed; i++)
-		niw_set_in_use(&system->end.system, i + 1, system->keys[i] == system->active);
-#endif
+	while (number && system->keys[number - 1] != system->active)
+		number--;
+	return number;
 }
 
-/* Chooses the aggregator that carries the frames of the bond. */
+/*
+ * Chooses the aggregator that carries the frames of the bond. The ports of the others stand by, as
+ * their partners are told, and attach at once when their turn comes.
+ */
 void lacp_choose(struct lacp_bond *system)
 {
 	struct lacp_port *chosen;
@@ -100,7 +100,8 @@ void lacp_choose(struct lacp_bond *system)
 	if (chosen == system->active)
 		return;
 	system->active = chosen;
-	lacp_use(system);
+	if (lag_end_use(&system->end, best + 1))
+		lacp_read_views(system);
 	if (chosen && !system->groups[best].partner)
 		net_warn_ratelimited("%s: Warning: No 802.3ad response from the link partner for any adapters in the bond\n",
 				     system->bond->dev->name);
