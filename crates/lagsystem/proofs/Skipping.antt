@@ -1,5 +1,5 @@
 -- An LACPDU after which the port looks the same to the Selection Logic: a settling goes on with this port alone.
-use Rattle.lagsystem.proofs.Common.{Bool, List, Option, Some, [], ap, arith, false, refl, slice_get, slice_set, subst, suc, sym, true, zero, ℕ, ◌∙◌}
+use Rattle.lagsystem.proofs.Common.{Bool, List, Option, Some, [], ap, arith, false, inl, refl, slice_get, slice_set, subst, suc, sym, true, zero, ℕ, ◌∙◌}
 use Rattle.lagsystem.proofs.Common.{◌∷◌, ◌≡◌, nat_tests, same_Some, OnTrue, AllByRecursion, AggId, Key, Lacpdu, Machines, mux_rows, RunsPeriodic}
 use Rattle.lagsystem.proofs.Common.{AtRest, FiresTimes, RunsToRest, one_mux, Reaches-keeps, PortView, ChangesAssignments, Table, SystemPort}
 use Rattle.lagsystem.proofs.Common.{OnlyPortChangesBy, PortAtChangesBy, ProcessesLacpdu, ThenSettles, after_holding, aggregators_in_use, stopped}
@@ -7,6 +7,7 @@ use Rattle.lagsystem.proofs.Common.{HasRecordedActor, IsSamePartner, LooksUnchan
 use Rattle.lagsystem.proofs.Common.{ProcessesLacpduAndRunsMux, ProcessesLacpduAt, NoneIsNext, collecting, PortChangesBy, PortsChangeBy, SettlesPorts}
 use Rattle.lagsystem.proofs.Common.{Settling, IsSound, SystemState, aggregators_value, with_system_ports, selection_view, stage_of, views}
 use Rattle.selection.specs.declared.view.Stage.TheVariants as stage
+use Rattle.portmachines.specs.Hearing.{HearsAgain}
 use Rattle.lagsystem.proofs.Keeps.{ports_keep, ports_table, settling_joined}
 use Rattle.lagsystem.proofs.Occupying.{LeavesOrStays, both_stay, mux_stays, taking_stays}
 use Rattle.lagsystem.proofs.PlaceLemmas.{in_use_before}
@@ -200,3 +201,13 @@ pub both_alike : (v : Lacpdu) (s : SystemPort) (p q : Machines) (n : ℕ) → Pr
 both_alike v s p q n took known same fired rest e =
     let processed : LooksUnchanged s (record s { port = p }) = took_alike v s p took known same in
     (processed, ran_alike (record s { port = p }) q (n, fired, rest) e ∙ processed)
+
+-- a port that hears again what it recorded
+pub heard_and_rests : (v : Lacpdu) (s : SystemPort) (q : Machines) → HearsAgain v s.port q → ProcessesLacpduAndRunsMux v s true (record s { port = q })
+heard_and_rests v s q h = let same : LooksUnchanged s (record s { port = q }) = ap (λ (p : Machines). selection_view (record s { port = p })) h.same in
+    record {
+      mid = record s { port = q };
+      processes = (refl, inl h.fires);
+      runs = (refl, (0, refl, h.rest));
+      same = (same, same);
+    }

@@ -40,6 +40,16 @@ fn is_same_stage(now: Stage, was: Stage) -> bool
 pub(crate) fn process_lacpdu_on(system_port: &mut SystemPort, pdu: &Lacpdu) -> bool
     ensures { ProcessesLacpduAndRunsMux pdu.now system_port.old result system_port.new }
 {
+    if system_port.port.hear_again(pdu) {
+        return true;
+    }
+    process_and_compare(system_port, pdu)
+}
+
+/// As `process_lacpdu_on`, of any LACPDU: what the Selection Logic sees is compared.
+fn process_and_compare(system_port: &mut SystemPort, pdu: &Lacpdu) -> bool
+    ensures { ProcessesLacpduAndRunsMux pdu.now system_port.old result system_port.new }
+{
     let known = has_recorded_actor(system_port, pdu);
     let partner = system_port.port.partner();
     system_port.port.take(pdu);

@@ -5,3 +5,4 @@ pub mod Choices
 pub mod Windows
 mod OneRow
 mod Modes
+mod HearingLemmas

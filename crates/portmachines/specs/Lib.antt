@@ -8,3 +8,4 @@ pub mod Start
 pub mod RowsToFire
 pub mod Calls
 pub mod Window
+pub mod Hearing

@@ -5,6 +5,7 @@
 //! and a row is one transition of a machine: from a state, if a condition holds, to a state, with actions.
 #![tactic(auto)]
 
+mod hearing;
 mod machines;
 mod mux;
 mod periodic;

@@ -3,6 +3,8 @@ ghost use Rattle.portmachines.specs.Rows.{AtRest, FiresTimes, OneEnabledAtMost, 
 ghost use Rattle.portmachines.specs.Receive.{receive_rows, lacpdu_rows};
 ghost use Rattle.portmachines.specs.Periodic.{RunsPeriodic, periodic_rows};
 ghost use Rattle.portmachines.specs.Mux.{mux_rows, same_mux_state};
+ghost use Rattle.portmachines.specs.Hearing.{HearsAgain};
+ghost use Rattle.std.specs.Bool.{OnTrue, OnFalse};
 ghost use Rattle.portmachines.specs.Transmit.{actor_state, count_down, is_due, pdu_of, after_sending};
 ghost use Rattle.portmachines.specs.Start.{Starts, before_start};
 ghost use Rattle.portmachines.specs.Calls.{ModeExpiresNone, OneEffect, with_mode};
@@ -94,6 +96,15 @@ impl Port {
         ensures { FiresIfEnabled (lacpdu_rows pdu.now) self.old self.new }
     {
         self.machines.process_lacpdu(pdu);
+    }
+
+    /// Processes an LACPDU as `take` does, if the port distributes and the LACPDU says what is recorded: then current_while starts, and
+    /// `mux` would find nothing to do. Else false, and nothing changes. The contract says only what true means (6.4.12).
+    pub fn hear_again(&mut self, pdu: &Lacpdu) -> bool
+        ensures heard { OnTrue result (HearsAgain pdu.now self.old self.new) }
+        ensures other { OnFalse result (self.new ≡ self.old) }
+    {
+        self.machines.hear_again(pdu)
     }
 
     /// One tick, 100 ms: each timer counts down, each LACPDU sent becomes one tick older, and the receive machine

@@ -14,6 +14,7 @@ ghost use Rattle.portmachines.specs.Receive.{
   start_current_while,
   start_receive,
   partner_is_up_to_date,
+  recorded_synchronization,
 };
 ghost use Rattle.portmachines.specs.RowsToFire.{receive_rows_to_fire};
 ghost use Rattle.portmachines.specs.Calls.{current_while_with};
@@ -164,30 +165,43 @@ impl Machines {
     fn update_ntt(&mut self, pdu_partner: &Info)
         ensures { self.new ≡ record self.old { ntt = if partner_is_up_to_date pdu_partner.now self.old then self.old.ntt else true } }
     {
-        let up_to_date = pdu_partner.party().matches(&self.party)
-            && pdu_partner.state.is_active() == self.active
-            && pdu_partner.state.is_short() == self.short
-            && pdu_partner.state.is_synchronized() == self.mux.is_synchronized();
-        if !up_to_date {
+        if !self.is_up_to_date(pdu_partner) {
             self.ntt = true;
         }
+    }
+
+    /// Whether the partner's view of this port is up to date. The argument is the Partner information of the LACPDU.
+    pub(crate) fn is_up_to_date(&self, pdu_partner: &Info) -> bool
+        ensures { result ≡ partner_is_up_to_date pdu_partner.now self.now }
+    {
+        pdu_partner.party().matches(&self.party)
+            && pdu_partner.state.is_active() == self.active
+            && pdu_partner.state.is_short() == self.short
+            && pdu_partner.state.is_synchronized() == self.mux.is_synchronized()
+    }
+
+    /// The partner's Synchronization that recordPDU records (6.4.9).
+    pub(crate) fn recorded_synchronization(&self, pdu: &Lacpdu) -> bool
+        ensures { result ≡ recorded_synchronization pdu.now self.now }
+    {
+        let maintained = pdu.actor.state.is_active()
+            || (self.active && pdu.partner.state.is_active());
+        let agreed = pdu.partner.party().matches(&self.party) || !pdu.actor.state.is_aggregatable();
+        pdu.actor.state.is_synchronized() && maintained && agreed
     }
 
     /// recordPDU (6.4.9): the partner gets the values of the LACPDU.
     fn record_pdu(&mut self, pdu: &Lacpdu)
         ensures { self.new ≡ record_pdu pdu.now self.old }
     {
-        let maintained = pdu.actor.state.is_active()
-            || (self.active && pdu.partner.state.is_active());
-        let agreed = pdu.partner.party().matches(&self.party) || !pdu.actor.state.is_aggregatable();
-        let synchronized = pdu.actor.state.is_synchronized() && maintained && agreed;
+        let synchronized = self.recorded_synchronization(pdu);
         self.partner = pdu.actor;
         self.partner.state = pdu.actor.state.with_synchronization(synchronized);
         self.defaulted = false;
     }
 
     /// Starts current_while, with 3 s or 90 s by the port's own LACP_Timeout, and clears Actor_State.Expired.
-    fn start_current_while(&mut self)
+    pub(crate) fn start_current_while(&mut self)
         ensures { self.new ≡ start_current_while self.old }
     {
         self.current_while = if self.short {
