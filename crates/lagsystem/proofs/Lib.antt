@@ -11,6 +11,7 @@ pub mod NextStays
 pub mod MemberCounts
 pub mod ForcingLemmas
 pub mod ReceivingLemmas
+mod TakingLemmas
 pub mod StateLemmas
 pub mod TableLemmas
 pub mod HoldingLemmas

@@ -212,7 +212,7 @@ impl<F: Fn(u16, usize) -> usize + Drop> Inner<F> {
     /// Processes an LACPDU on the port at this index, and settles. Where `process_lacpdu_on` answers true, the rest of a settling
     /// can change nothing but by the periodic machine of this port and by what leaves it, so these alone are done: the result is
     /// the same, and the contract does not say which of the two ways is taken.
-    fn process_lacpdu(&mut self, place: usize, pdu: &Lacpdu)
+    pub(crate) fn process_lacpdu(&mut self, place: usize, pdu: &Lacpdu)
         requires sound { IsSound (inner_state self.old) }
         requires within { place < length self.old.system_ports.items }
         ensures settled { ThenSettles (OnlyPortChangesBy (Some place) (ProcessesLacpdu pdu.now)) (inner_state self.old)

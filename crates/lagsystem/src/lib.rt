@@ -33,6 +33,7 @@ mod settling;
 mod start;
 mod system_ports;
 mod system_readers;
+mod take_lacpdu;
 mod tick;
 mod transmit;
 mod waiting;
