@@ -10,14 +10,14 @@
 #define PORTS 4
 #define LAGS 2
 #endif
-#define ROWS NIW_FEW_CONVERSATIONS
+#define CONVERSATIONS NIW_ONE_CONVERSATION
 #define ALL ((UINT32_C(1) << PORTS) - 1)
 
 #include "loop.h"
 
 _Static_assert(sizeof(void *) != 4 || sizeof(struct loop) == 36 + 8 * LAGS + 48 * (PORTS + 1), "docs/FIRMWARE.md tells this size");
 
-static _Alignas(16) uint8_t room[2 * NIW_MEMORY(PORTS, LAGS, ROWS)];
+static _Alignas(16) uint8_t room[2 * NIW_MEMORY(PORTS, LAGS, CONVERSATIONS)];
 
 struct trapped { uint16_t port; size_t length; uint8_t octets[NIW_FRAME]; };
 
@@ -278,7 +278,7 @@ static void show_restarts(void) {
     unsigned ticks = 0;
     set_link(&two.loop, 1, false);
     niw_free(&two.loop.system);
-    make(&two, 2, ROWS);
+    make(&two, 2, CONVERSATIONS);
     printf("the second one starts again: its chip has %s", carries(&two, 0, false) && !two.blocked ? "no trunk, and no blocked port" : "what it had");
     join_all(&two, 2);
     for (uint16_t port = 1; port <= PORTS; port++) set_link(&two.loop, port, true);
@@ -297,9 +297,9 @@ int main(void) {
     struct niw_config large = {.conversations = NIW_MANY_CONVERSATIONS};
     struct niw_port ports[PORTS] = {{0}};
     for (uint16_t i = 0; i < PORTS; i++) ports[i].number = (uint16_t)(i + 1);
-    printf("before niw_give_memory: %s\n", niw_status_text(make(&one, 1, ROWS)));
+    printf("before niw_give_memory: %s\n", niw_status_text(make(&one, 1, CONVERSATIONS)));
     niw_give_memory(room, sizeof room);
-    printf("two handles of one buffer: %s, %s\n", niw_status_text(make(&one, 1, ROWS)), niw_status_text(make(&two, 2, ROWS)));
+    printf("two handles of one buffer: %s, %s\n", niw_status_text(make(&one, 1, CONVERSATIONS)), niw_status_text(make(&two, 2, CONVERSATIONS)));
     printf("a third one with 4096 conversations: %s\n", niw_status_text(begin(&third, &large, ports)));
     printf("a second begin of the first one: %s\n", niw_status_text(begin(&one.loop, &large, ports)));
     join_all(&one, 1);
@@ -317,7 +317,7 @@ int main(void) {
     show_restarts();
     set_links(1, PORTS, false);
     niw_free(&two.loop.system);
-    printf("another switch in the memory of the second: %s\n", niw_status_text(make(&two, 9, ROWS)));
+    printf("another switch in the memory of the second: %s\n", niw_status_text(make(&two, 9, CONVERSATIONS)));
     join_all(&two, 1);
     set_links(2, PORTS, true);
     printf("the other links lead there: all but port 1 after %u ticks\n", run(100, ALL & ~UINT32_C(1)));

@@ -13,8 +13,10 @@
 
 #ifdef WITH_ROWS
 #include "rows.h"
+#define CONVERSATIONS NIW_FEW_CONVERSATIONS
 #else
 #include "loop.h"
+#define CONVERSATIONS NIW_ONE_CONVERSATION
 #endif
 
 struct trapped { size_t length; uint8_t octets[NIW_FRAME]; };
@@ -159,7 +161,7 @@ static void heard(struct loop *here, uint16_t port, const uint8_t *frame, size_t
 }
 
 static struct niw_config config_of(const struct box *box) {
-    return (struct niw_config){.priority = 32768, .mac = {2, 0, 0, 0, 0, box->number}, .first_marker = 1, .conversations = NIW_FEW_CONVERSATIONS};
+    return (struct niw_config){.priority = 32768, .mac = {2, 0, 0, 0, 0, box->number}, .first_marker = 1, .conversations = CONVERSATIONS};
 }
 
 /* A start of the firmware from nothing: its ports join their LAGs, and their links are up. */
@@ -399,7 +401,7 @@ static void show_counts(void) {
 
 int main(void) {
 #ifdef NIW_POOL
-    static _Alignas(16) uint8_t room[2 * NIW_MEMORY(PORTS, LAGS, NIW_FEW_CONVERSATIONS)];
+    static _Alignas(16) uint8_t room[2 * NIW_MEMORY(PORTS, LAGS, CONVERSATIONS)];
     niw_give_memory(room, sizeof room);
 #endif
     if (start(&one) != NIW_OK || start(&two) != NIW_OK) return 1;

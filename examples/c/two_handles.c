@@ -62,7 +62,7 @@ static void heard(struct loop *here, uint16_t port, const uint8_t *frame, size_t
 }
 
 static bool make(struct box *box, uint16_t keys) {
-    struct niw_config config = {.priority = 32768, .mac = {2, 0, 0, 0, 0, box->number}, .first_marker = 1, .conversations = NIW_FEW_CONVERSATIONS};
+    struct niw_config config = {.priority = 32768, .mac = {2, 0, 0, 0, 0, box->number}, .first_marker = 1, .conversations = NIW_ONE_CONVERSATION};
     struct niw_port ports[PORTS];
     for (uint16_t i = 0; i < PORTS; i++)
         ports[i] = (struct niw_port){(uint16_t)(i + 1), 128, {2, 0, 0, 0, (uint8_t)(i + 1), box->number}, 0, true, true, true};
@@ -91,7 +91,7 @@ static bool show(const char *what, uint16_t keys) {
 
 int main(void) {
 #ifdef NIW_POOL
-    static _Alignas(16) uint8_t room[3 * NIW_MEMORY(PORTS, LAGS, NIW_FEW_CONVERSATIONS)];
+    static _Alignas(16) uint8_t room[3 * NIW_MEMORY(PORTS, LAGS, NIW_ONE_CONVERSATION)];
     niw_give_memory(room, sizeof room);
 #endif
     return show("one key", 0) && show("keys of their own", 1) ? 0 : 1;

@@ -296,7 +296,7 @@ static void
 remake(struct lacp *lacp)
 {
     struct lag_port ports[NIW_MOST_PORTS];
-    struct niw_config config = { .priority = lacp->set.priority, .conversations = NIW_FEW_CONVERSATIONS };
+    struct niw_config config = { .priority = lacp->set.priority, .conversations = NIW_ONE_CONVERSATION };
     size_t count = list_ports(lacp, ports);
     uint16_t before = lacp->carries;
 

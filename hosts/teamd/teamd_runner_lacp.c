@@ -283,7 +283,7 @@ static size_t list_ports(struct lacp *lacp, const struct lacp_port *but, struct 
 static int remake(struct lacp *lacp, const struct lacp_port *but)
 {
 	struct lag_port ports[NIW_MOST_PORTS];
-	struct niw_config config = { .priority = lacp->cfg.sys_prio, .conversations = NIW_FEW_CONVERSATIONS };
+	struct niw_config config = { .priority = lacp->cfg.sys_prio, .conversations = NIW_ONE_CONVERSATION };
 	bool silent = is_silent(lacp);
 	size_t count = list_ports(lacp, but, ports);
 	struct niw_made made;

@@ -17,6 +17,7 @@ SHORTEST_FRAME: Final = 14
 LONGEST_FRAME: Final = 1518
 MOST_PORTS: Final = 64
 MOST_TICKS: Final = 65535
+ONE_CONVERSATION: Final = 1
 FEW_CONVERSATIONS: Final = 256
 MANY_CONVERSATIONS: Final = 4096
 MOST_CONVERSATIONS: Final = 65536
@@ -927,7 +928,7 @@ REASON_TEXTS: Final = (
     "the configuration has not 1 to 64 aggregators",
     "a port has the number 0 or one that is not above the number before it",
     "the limit of links of an aggregator is above 64",
-    "the configuration has neither 256 nor 4096 conversations",
+    "the configuration has not 1, 256 or 4096 conversations",
     "the distribution algorithm is not 0 to 2",
 )
 PORT_STATUS_TEXTS: Final = (

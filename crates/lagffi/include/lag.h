@@ -64,7 +64,9 @@ struct niw_queue {
 #define NIW_MOST_PORTS 64
 /* The most ticks of one niw_ticks: 6553.5 s. */
 #define NIW_MOST_TICKS 65535
-/* How many conversations an aggregator may have. */
+/* How many conversations an aggregator may have: 1 where something else picks the port of a frame, as the hash of hardware does, since
+ * each conversation takes memory. */
+#define NIW_ONE_CONVERSATION 1
 #define NIW_FEW_CONVERSATIONS 256
 #define NIW_MANY_CONVERSATIONS 4096
 /* The most conversations that niw_next_move and niw_queue_next_released are given. */
@@ -130,7 +132,7 @@ enum {
     NIW_REASON_AGGREGATORS = 2,   /* not 1 to 64 aggregators */
     NIW_REASON_PORT_NUMBER = 3,   /* a port number is 0, or not above the one before it */
     NIW_REASON_MAX_LINKS = 4,     /* a limit of links is above 64 */
-    NIW_REASON_CONVERSATIONS = 5, /* neither 256 nor 4096 conversations */
+    NIW_REASON_CONVERSATIONS = 5, /* not 1, 256 or 4096 conversations */
     NIW_REASON_ALGORITHM = 6      /* an algorithm that is not 0 to 2 */
 };
 
@@ -160,7 +162,7 @@ struct niw_config {
     uint8_t mac[6];         /* the MAC address of the system */
     uint16_t max_delay;     /* CollectorMaxDelay in tens of microseconds */
     uint32_t first_marker;  /* the identifier of the first marker */
-    uint16_t conversations; /* of each aggregator, 256 or 4096 */
+    uint16_t conversations; /* of each aggregator: 256, 4096, or 1 where something else picks the port of a frame */
     uint16_t max_links;     /* the most members of each aggregator, 1 to 64; 0: any number */
     uint16_t algorithm;     /* how a conversation picks its port: NIW_BY_.. */
 };
@@ -1061,7 +1063,7 @@ static inline const char *niw_reason_text(uint32_t reason) {
         "the configuration has not 1 to 64 aggregators",
         "a port has the number 0 or one that is not above the number before it",
         "the limit of links of an aggregator is above 64",
-        "the configuration has neither 256 nor 4096 conversations",
+        "the configuration has not 1, 256 or 4096 conversations",
         "the distribution algorithm is not 0 to 2"};
     return texts[reason < sizeof texts / sizeof *texts ? reason : 0];
 }

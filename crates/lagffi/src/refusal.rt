@@ -37,7 +37,7 @@ pub(crate) fn refusal(config: &LagConfig, keys: &[u16], ports: &[LagPort]) -> Op
     if config.max_links > 64 {
         return Some(BadConfig::MaxLinks);
     }
-    if config.conversations != 256 && config.conversations != 4096 {
+    if config.conversations != 1 && config.conversations != 256 && config.conversations != 4096 {
         return Some(BadConfig::Conversations);
     }
     None

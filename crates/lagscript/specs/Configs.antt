@@ -5,6 +5,8 @@ use Rattle.std.specs.List.{list_any}
 use Rattle.lagtypes.specs.Same.{same_system}
 use Rattle.lagsystem.specs.First.{ConfigValue, config_value, or_first, refusal}
 use Rattle.lagsystem.specs.declared.config.PortConfig.{PortConfig}
+use Rattle.lagsystem.specs.declared.fault.BadConfig.{BadConfig}
+use Rattle.lagsystem.specs.declared.fault.BadConfig.TheVariants.{Conversations}
 use Rattle.lagscript.specs.declared.config.BadWorld.{BadWorld}
 use Rattle.lagscript.specs.declared.config.BadWorld.TheVariants.{System, SameSystem, CableEnd}
 use Rattle.lagscript.specs.declared.config.WorldConfig.{WorldConfig}
@@ -34,9 +36,18 @@ first_below test (suc n) = or_first (first_below test n) (if test n then Some n 
 abbrev pub bad_end : List PortConfig → List PortConfig → List (ℕ × ℕ) → Option ℕ
 bad_end ports1 ports2 cables = option_map suc (first_below (has_bad_end ports1 ports2 cables) (length cables))
 
+-- a system of two has not one conversation in each aggregator, where something else would pick the ports of frames
+abbrev pub lone_refusal : ℕ → Option BadConfig
+lone_refusal conversations = if conversations == 1 then Some Conversations else None
+
+-- the first reason to refuse the configuration of a system of two, if there is one
+abbrev pub refusal_of_either : ConfigValue → Option BadConfig
+refusal_of_either config =
+    or_first (refusal config.aggregators config.ports config.max_links config.conversations) (lone_refusal config.conversations)
+
 -- why the configuration of system 1 or 2 is refused, if it is
 abbrev pub system_refusal : ℕ → ConfigValue → Option BadWorld
-system_refusal side config = option_map (System side) (refusal config.aggregators config.ports config.max_links config.conversations)
+system_refusal side config = option_map (System side) (refusal_of_either config)
 
 -- the first reason to refuse two systems and their cables: of system 1, of system 2, equal identifiers, of the cables
 abbrev pub refusal_of_two : ConfigValue → ConfigValue → List (ℕ × ℕ) → Option BadWorld

@@ -1,5 +1,6 @@
 ghost use Rattle.std.specs.Prelude.{◌≡◌, ◌<◌, length};
-ghost use Rattle.lagscript.specs.Configs.{bad_end, has_bad_end, has_port, world_refusal, shares_end};
+ghost use Rattle.lagscript.specs.Configs.{bad_end, has_bad_end, has_port, refusal_of_either, world_refusal, shares_end};
+ghost use Rattle.lagsystem.specs.First.{config_value};
 
 use lagsystem::{BadConfig, Config, PortConfig};
 
@@ -72,21 +73,33 @@ fn bad_end(first: &[PortConfig], second: &[PortConfig], cables: &[(u16, u16)]) -
     None
 }
 
+/// The first reason to refuse the configuration of a system of two: that of `Config::refusal`, or one conversation in each
+/// aggregator, where something else would pick the ports of frames.
+fn refusal_of_either(config: &Config) -> Option<BadConfig>
+    ensures { result ≡ refusal_of_either (config_value config.now) }
+{
+    match config.refusal() {
+        Some(reason) => Some(reason),
+        None if config.conversations == 1 => Some(BadConfig::Conversations),
+        None => None,
+    }
+}
+
 impl WorldConfig {
     // promise: two systems and their cables are refused for the first reason: system 1, system 2, equal identifiers, the first bad end of a
     //    cable
     // contract: `WorldConfig::refusal` (`world_refusal`)
     /// The first reason to refuse the systems and their cables (profile): a fault of system 1, then of system 2, then
     /// equal identifiers, then the first cable with an end that is no port of its system or that an earlier cable has.
-    /// Never `Lines`.
+    /// Each system has 256 or 4096 conversations in each aggregator. Never `Lines`.
     pub fn refusal(&self) -> Option<BadWorld>
         ensures { result ≡ world_refusal self.now }
     {
         let [first, second] = &self.systems;
-        if let Some(reason) = first.refusal() {
+        if let Some(reason) = refusal_of_either(first) {
             return Some(BadWorld::System { side: 1, reason });
         }
-        if let Some(reason) = second.refusal() {
+        if let Some(reason) = refusal_of_either(second) {
             return Some(BadWorld::System { side: 2, reason });
         }
         if first.system == second.system {

@@ -28,13 +28,19 @@ too_short octets kind e low h = let short : length octets < 14 = subst (IsFrameO
 
 -- the low bits of a number, as many as the conversations have
 pub low_bits : (n x : ℕ) → is_conversation_count n ≡ true → bit_and x (n - 1) ≡ x % n
-low_bits n x h = elim (cases_Bool (eqb n 256)) [
-  | inl few ↦ subst (λ m. bit_and x (m - 1) ≡ x % m) (sym (eqb-true n 256 few)) (and_mask x 8)
-  | inr other ↦ subst (λ m. bit_and x (m - 1) ≡ x % m) (sym (eqb-true n 4096 (sym (or_second (eqb n 256) (eqb n 4096) other) ∙ h))) (and_mask x 12)
+low_bits n x h = elim (cases_Bool (eqb n 1)) [
+  | inl one ↦ subst (λ m. bit_and x (m - 1) ≡ x % m) (sym (eqb-true n 1 one)) (and_mask x 0)
+  | inr more ↦ few_or_many (sym (or_second (eqb n 1) (eqb n 256 || eqb n 4096) more) ∙ h)
 ]
   where
     or_second : (a b : Bool) → a ≡ false → (a || b) ≡ b
     or_second a b e = subst (λ c. (c || b) ≡ b) (sym e) refl
+
+    few_or_many : (eqb n 256 || eqb n 4096) ≡ true → bit_and x (n - 1) ≡ x % n
+    few_or_many k = elim (cases_Bool (eqb n 256)) [
+      | inl few ↦ subst (λ m. bit_and x (m - 1) ≡ x % m) (sym (eqb-true n 256 few)) (and_mask x 8)
+      | inr other ↦ subst (λ m. bit_and x (m - 1) ≡ x % m) (sym (eqb-true n 4096 (sym (or_second (eqb n 256) (eqb n 4096) other) ∙ k))) (and_mask x 12)
+    ]
 
 -- a frame that may be offered is not refused, and an offer of it only by the distributor
 

@@ -40,7 +40,7 @@ reason_text Aggregators = codes "the configuration has not 1 to 64 aggregators"
 reason_text (PortNumber place) = codes "the port at place " ++ (decimal place
     ++ codes " has the number 0 or one that is not above the number before it")
 reason_text MaxLinks = codes "the limit of links of an aggregator is not 1 to 64"
-reason_text Conversations = codes "the configuration has neither 256 nor 4096 conversations"
+reason_text Conversations = codes "the configuration has not 1, 256 or 4096 conversations"
 
 -- the text of a fault of a system, as Display writes it
 abbrev pub fault_text : SystemFault → List ℕ

@@ -49,7 +49,7 @@ abbrev pub two_octets : List ℕ → ℕ → ℕ
 two_octets octets offset = slice_index octets offset * 256 + slice_index octets (offset + 1)
 
 -- the conversation of a frame: the last two octets of its destination address exclusive-or those of its source, of which
--- the low 8 bits count if there are 256 conversations, and the low 12 if there are 4096 (profile)
+-- the low 8 bits count if there are 256 conversations, the low 12 if there are 4096, and none if there is one (profile)
 abbrev pub number_of_conversation : SystemState → List ℕ → ℕ
 number_of_conversation s octets = bit_xor (two_octets octets 4) (two_octets octets 10) % conversation_count s
 

@@ -58,7 +58,7 @@ impl<F: Fn(u16, usize) -> usize + Drop> System<F> {
     /// free. Refused in this order: `BadConfig(Ports)` if there are not 1 to 64 ports, `BadConfig(Aggregators)` if
     /// there are not 1 to 64 aggregators, `BadConfig(PortNumber)` if the port numbers do not ascend from 1 or more,
     /// `BadConfig(MaxLinks)` if there is a limit of links that is not 1 to 64, `BadConfig(Conversations)` if there are
-    /// neither 256 nor 4096 conversations, `NoMemory` if memory is refused (profile).
+    /// not 1, 256 or 4096 conversations, `NoMemory` if memory is refused (profile).
     pub fn new(alloc: Global, config: Config, algorithm: F) -> Result<System<F>, SystemFault>
         requires usable { PicksIndexes (F.pre algorithm) (F.post algorithm) }
         ensures first { IfOk result (λ s. IsFirst s.state) }

@@ -13,10 +13,10 @@ use distributor::Assignment;
 use lagtypes::AggId;
 
 impl<F: Fn(u16, usize) -> usize + Drop> System<F> {
-    // promise: the number of a frame's conversation is the low 8 or 12 bits of the exclusive-or, by the count
+    // promise: the number of a frame's conversation is the low 0, 8 or 12 bits of the exclusive-or, by the count
     // contract: `conversation` (`is`, `within`), `conversation_state`
     /// The conversation of a frame, in whichever aggregator: the low bits of octets 4 and 5 exclusive-or octets 10 and
-    /// 11, 8 bits for 256 conversations, and 12 for 4096. None if the frame has fewer than 14 octets (profile).
+    /// 11, 8 bits for 256 conversations, 12 for 4096, and none for 1. None if the frame has fewer than 14 octets (profile).
     pub fn conversation(&self, frame: &[u8]) -> Option<u16>
         ensures is { result ≡ conversation_in self.now.state frame.now }
         ensures within { IfSome result (λ conv. conv < conversation_count self.now.state) }

@@ -18,7 +18,7 @@ pub enum BadConfig {
     PortNumber(usize),
     /// 4: the limit of links is not 1 to 64.
     MaxLinks,
-    /// 5: there are neither 256 nor 4096 conversations in each aggregator.
+    /// 5: there are not 1, 256 or 4096 conversations in each aggregator.
     Conversations,
 }
 
@@ -129,7 +129,7 @@ impl fmt::Display for BadConfig {
                 "the limit of links of an aggregator is not 1 to 64",
             ),
             BadConfig::Conversations => {
-                f.write_str("the configuration has neither 256 nor 4096 conversations")
+                f.write_str("the configuration has not 1, 256 or 4096 conversations")
             }
         }
     }

@@ -27,7 +27,7 @@ pub(crate) fn check_offer(octets: &[u8]) -> Result<(), SystemFault>
 
 impl<F: Fn(u16, usize) -> usize + Drop> Inner<F> {
     /// The number of the conversation of a frame: the low bits of octets 4 and 5 exclusive-or octets 10 and 11, the last
-    /// two of each address; 8 bits for 256 conversations, and 12 for 4096. The frame has at least 14 octets (profile).
+    /// two of each address; 8 bits for 256 conversations, 12 for 4096, and none for 1. The frame has at least 14 octets (profile).
     pub(crate) fn number_of_conversation(&self, octets: &[u8]) -> u16
         requires sound { IsSound (inner_state self.now) }
         requires long { 14 ≤ length octets.now }

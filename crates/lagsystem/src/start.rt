@@ -85,7 +85,7 @@ fn refusal(
     if !is_limit(max_links) {
         return Some(BadConfig::MaxLinks);
     }
-    if conversations != 256 && conversations != 4096 {
+    if conversations != 1 && conversations != 256 && conversations != 4096 {
         return Some(BadConfig::Conversations);
     }
     None
@@ -93,8 +93,8 @@ fn refusal(
 
 impl Config {
     /// The first reason for which `System::new` refuses this configuration: not 1 to 64 ports, not 1 to 64 aggregators,
-    /// a port whose number is 0 or not above the one before it, a limit of links that is not 1 to 64, or neither 256 nor
-    /// 4096 conversations. None if it is accepted (profile).
+    /// a port whose number is 0 or not above the one before it, a limit of links that is not 1 to 64, or not
+    /// 1, 256 or 4096 conversations. None if it is accepted (profile).
     pub fn refusal(&self) -> Option<BadConfig>
         ensures { result ≡ config_refusal self.now }
     {

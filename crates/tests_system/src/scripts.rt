@@ -248,6 +248,7 @@ max_links = 65 => : max links
 max_links = 0, conversations = 0 => : max links
 max_links = 65535, conversations = 0 => : max links
 conversations = 0 => : conversation count
+conversations = 1 => : conversation count
 conversations = 255 => : conversation count
 conversations = 257 => : conversation count
 conversations = 4095 => : conversation count

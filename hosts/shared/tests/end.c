@@ -107,7 +107,7 @@ pause_for(int ticks)
 static int
 remake(struct mode mode, uint16_t key, bool carried, uint32_t *why)
 {
-    const struct niw_config config = { .priority = 1, .mac = { 2, 0, 0, 0, 0, 1 }, .conversations = NIW_FEW_CONVERSATIONS };
+    const struct niw_config config = { .priority = 1, .mac = { 2, 0, 0, 0, 0, 1 }, .conversations = NIW_ONE_CONVERSATION };
     struct lag_port list[PORTS];
     int begin = 0;
 
@@ -132,7 +132,7 @@ remake(struct mode mode, uint16_t key, bool carried, uint32_t *why)
 static void
 begin(struct mode own, struct mode partner)
 {
-    const struct niw_config config = { .priority = 2, .mac = { 2, 0, 0, 0, 0, 2 }, .conversations = NIW_FEW_CONVERSATIONS };
+    const struct niw_config config = { .priority = 2, .mac = { 2, 0, 0, 0, 0, 2 }, .conversations = NIW_ONE_CONVERSATION };
     const uint16_t keys[PORTS] = { 3, 3 };
     struct niw_port its[PORTS];
     uint32_t why;

@@ -17,7 +17,7 @@ TOLD = {"Received": "RECEIVED_", "ReceiveState": "RECEIVE_", "MuxState": "MUX_",
         "ChurnState": "CHURN_"}
 # The numbers of the header alone: what it refuses itself, the subtypes of PDUs, and what the sources say in words.
 OWN = {"NIW_NULL": 16, "NIW_SENT_NOTHING": 0, "NIW_SENT_LACPDU": 1, "NIW_SENT_MARKER": 2, "NIW_SHORTEST_FRAME": 14,
-       "NIW_TICK_MILLISECONDS": 100, "NIW_FEW_CONVERSATIONS": 256, "NIW_MANY_CONVERSATIONS": 4096, "NIW_BY_NUMBER": 0, "NIW_BY_SUM": 1,
+       "NIW_TICK_MILLISECONDS": 100, "NIW_ONE_CONVERSATION": 1, "NIW_FEW_CONVERSATIONS": 256, "NIW_MANY_CONVERSATIONS": 4096, "NIW_BY_NUMBER": 0, "NIW_BY_SUM": 1,
        "NIW_STATE_TEXT_ROOM": 87}
 # Variants and constants that have a name of their own in C.
 VARIANTS = {"Received::Up": "HANDED_UP"}

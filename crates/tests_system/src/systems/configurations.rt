@@ -87,7 +87,7 @@ fn counted(
 /// A configuration in which the limit and the count are refused too is refused for the first reason.
 #[test]
 fn other_limits_and_counts_are_refused_last(rt: HostRuntime) -> Result<(), SystemFault> {
-    for conversations in &[0, 1, 255, 257, 4095, 4097, 65535] {
+    for conversations in &[0, 2, 255, 257, 4095, 4097, 65535] {
         let given = counted(rt.alloc(), &[1, 2], None, *conversations)?;
         is_refused(&rt, rt.alloc(), given, BadConfig::Conversations);
     }
@@ -95,11 +95,12 @@ fn other_limits_and_counts_are_refused_last(rt: HostRuntime) -> Result<(), Syste
         let given = counted(rt.alloc(), &[1, 2], Some(*limit), 256)?;
         is_refused(&rt, rt.alloc(), given, BadConfig::MaxLinks);
     }
-    let rows: [(&[u16], u16, u16, Option<BadConfig>); 6] = [
+    let rows: [(&[u16], u16, u16, Option<BadConfig>); 7] = [
         (&[1, 1], 0, 0, Some(BadConfig::PortNumber(2))),
         (&[1, 2], 65, 257, Some(BadConfig::MaxLinks)),
         (&[1, 2], 3, 257, Some(BadConfig::Conversations)),
         (&[1, 2], 3, 4096, None),
+        (&[1, 2], 3, 1, None),
         (&[1, 2], 1, 256, None),
         (&[1, 2], 64, 256, None),
     ];
@@ -124,7 +125,7 @@ const REASON_TEXTS: &str = "the configuration has not 1 to 64 ports
 the configuration has not 1 to 64 aggregators
 the port at place 7 has the number 0 or one that is not above the number before it
 the limit of links of an aggregator is not 1 to 64
-the configuration has neither 256 nor 4096 conversations";
+the configuration has not 1, 256 or 4096 conversations";
 
 /// A reason has this number; and it, and the fault that it is the reason of, print this text.
 fn tells_reason(
