@@ -12,6 +12,7 @@ from repository import Missing
 sources = loading.module("interface.d", "sources")
 numbering = loading.module("interface.d", "numbering")
 lag_h = loading.module("interface.d", "lag_h")
+memory = loading.module("interface.d", "memory")
 bindings = loading.module("interface.d", "bindings")
 elsewhere = loading.module("interface.d", "elsewhere")
 rust = loading.module("interface.d", "rust")
@@ -230,6 +231,43 @@ def test_a_word_of_rust_gets_its_mark() -> None:
     export = sources.Export("new", [], [], "struct niw_made", [sources.Field("size_t", "type")])
     told = rust.module("struct niw_group_id {\n    uint16_t where;\n};\n", [export])
     assert "    pub r#where: u16,\n" in told and "    pub fn lagffi_new(r#type: usize) -> Made;\n" in told
+
+
+TAKES = """
+static void rattle_alloc(u64 answer, u64 size, u64 aligned) {
+    answer_memory(answer, malloc_of((size_t)size));
+}
+
+static void f4(u64 l0) {
+\trattle_alloc(l0, 8, 8);
+}
+
+static u64 list_of(size_t count, size_t size) {
+    return AT(malloc_of(count * size));
+}
+
+uint8_t lagffi_new(struct niw_system *handle) {
+    f4(AT(handle));
+    return 0;
+}
+
+uint8_t lagffi_tick(struct niw_system *handle) {
+    return CALL;
+}
+
+uint8_t lagffi_next_move(struct niw_system *handle) {
+    return (uint8_t)list_of(2, 2);
+}
+"""
+SAYS_MEMORY = "NIW_NO_MEMORY = 12, /* memory was refused; only niw_new\n answers it; of lag.c, where it has lists, niw_next_move, too */"
+
+
+def test_what_takes_memory_is_what_the_header_names() -> None:
+    assert list(memory.differences(TAKES.replace("CALL", "0"), SAYS_MEMORY)) == []
+    told = list(memory.differences(TAKES.replace("CALL", "f4(1), 0"), SAYS_MEMORY))
+    assert [it.partition(":")[0] for it in told] == ["niw_tick", "niw_tick"]
+    assert len(list(memory.differences(TAKES.replace("CALL", "0"), SAYS_MEMORY.replace("niw_new", "niw_renew")))) == 4
+    assert any("pointer" in it for it in memory.differences(TAKES.replace("CALL", "(*told)(1)"), SAYS_MEMORY))
 
 
 REFUSED: dict[str, tuple[Callable[..., object], tuple[object, ...], str]] = {
