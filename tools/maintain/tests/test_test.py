@@ -50,7 +50,35 @@ def test_a_verdict_is_of_a_commit_and_as_the_run_ended(
     monkeypatch.setattr(program, "want", lambda name: None)
     monkeypatch.setattr(program, "tested_sources", lambda: next(sources))
     monkeypatch.setattr(program, "passed_on", lambda words: (last, status))
+    monkeypatch.setattr(program, "by_stock_rust", lambda: program.stock.Tests(0, 0))
     assert program.main() == status
     verdict = crates.parent / "out" / "verdict"
     assert verdict.exists() == is_one
     assert not is_one or verdict.read_text() == f"{before}\n{last}\n"
+
+
+@pytest.mark.parametrize(
+    ("last", "status", "erasers", "tests", "told"),
+    [
+        ("2 passed, 0 failed", 0, 0, (3, 0), ("6 passed, 0 failed", 0)),
+        ("2 passed, 0 failed", 0, 1, (3, 0), ("5 passed, 1 failed", 1)),
+        ("2 passed, 0 failed", 0, 0, (3, 1), ("6 passed, 1 failed", 1)),
+        ("1 passed, 1 failed", 1, 0, (3, 0), ("5 passed, 1 failed", 1)),
+        ("rt: it was killed", 137, 0, (3, 0), ("rt: it was killed", 137)),
+    ],
+)
+def test_what_stock_rust_says_is_counted_in_the_last_line(
+    last: str, status: int, erasers: int, tests: tuple[int, int], told: tuple[str, int], monkeypatch: pytest.MonkeyPatch, capsys: pytest.CaptureFixture[str]
+) -> None:
+    monkeypatch.setattr(program.stock, "missing", lambda: "")
+    monkeypatch.setattr(program, "passed_on", lambda words: ("", erasers))
+    monkeypatch.setattr(program.stock, "tests", lambda: program.stock.Tests(*tests))
+    assert program.with_stock_rust(last, status) == told
+    assert capsys.readouterr().out == (f"{told[0]}\n" if "passed" in last else "")
+
+
+def test_without_cargo_the_last_line_is_that_of_the_gate(monkeypatch: pytest.MonkeyPatch, capsys: pytest.CaptureFixture[str]) -> None:
+    monkeypatch.setattr(program.stock, "missing", lambda: "there is no cargo")
+    assert program.with_stock_rust("2 passed, 0 failed", 0) == ("2 passed, 0 failed", 0)
+    told = capsys.readouterr()
+    assert told.out == "2 passed, 0 failed\n" and "not by stock Rust: there is no cargo" in told.err
