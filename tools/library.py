@@ -1,8 +1,9 @@
 """Links the C library: one object for programs that are linked with it, and one for programs that load it.
 
 Both come from liblagffi.a, which `rt lib` makes, and the C part of the toolchain; of another processor than x86-64 from what rattle
-compiles for it, and dist.d/runtime, since the toolchain has no C there. Where there is no toolchain they come from c/lag.c. They show the functions
-of lag.h and nothing else, so a program may have functions of any other name; what comes from c/lag.c shows one text more, which says so.
+compiles for it, and dist.d/runtime, since the toolchain has no C there. Where there is no toolchain they come from the same sources by cargo, or from
+c/lag.c. They show the functions of lag.h and nothing else, so a program may have functions of any other name; what comes from cargo or c/lag.c shows
+one text more, which says so.
 tools/library makes both in a folder, tools/dist packs them, and tools/maintain/python-tests loads the second one.
 """
 
@@ -11,7 +12,9 @@ from __future__ import annotations
 import os
 import re
 import subprocess
+from typing import Sequence
 
+import stock
 from processors import AMD64, Processor, compile_crate, take_libraries
 from repository import COMPILER, CRATES, RT, TOOLS, TOP, Missing, read_text, runtime, want, write_text
 
@@ -32,6 +35,8 @@ RENAMED = {
 # The library as one file of C, and the text that it alone shows.
 PORTABLE = os.path.join(TOP, "c", "lag.c")
 PORTABLE_SHOWS = "niw_lag_c"
+# What the library by cargo alone shows, and where cargo has it.
+RUST_SHOWS = "niw_lag_rust"
 # What Debian builds programs with, beside -O2.
 HARDENING = ["-fstack-protector-strong", "-D_FORTIFY_SOURCE=2", "-Wl,-z,relro,-z,now,-z,noexecstack"]
 
@@ -107,6 +112,22 @@ def portable(folder: str, *words: str, processor: Processor = AMD64) -> str:
     return made
 
 
+def by_cargo(folder: str, *words: str, profile: str = "release", shows: Sequence[str] = ()) -> str:
+    """The same object, lag.o, of the sources by stock Rust: it wants cargo, ld and objcopy."""
+    why = stock.missing()
+    if why:
+        raise Missing(why)
+    want("ld", "objcopy")
+    stock.make_ready()
+    printed("cargo", "build", "--quiet", stock.OFFLINE, "--package", "lagffi", "--profile", profile, *words, cwd=TOP)
+    made, kept, names = os.path.join(folder, "lag.o"), os.path.join(folder, "exports"), [*exports(), RUST_SHOWS, *shows]
+    write_text(kept, "\n".join(names) + "\n")
+    # What the exports reach, and no more.
+    printed("ld", "-r", "--gc-sections", "--gc-keep-exported", *(f"--undefined={it}" for it in names), "-o", made, os.path.join(stock.target(), profile, "liblag.a"))
+    printed("objcopy", f"--keep-global-symbols={kept}", "--strip-debug", made)
+    return made
+
+
 def archive(folder: str, lag: str) -> str:
     """liblag.a, which links alone. Equal objects give equal octets."""
     made = os.path.join(folder, "liblag.a")
@@ -129,10 +150,10 @@ def version_script(folder: str, *more: str) -> str:
     return made
 
 
-def shared(folder: str, lag: str, processor: Processor = AMD64, is_portable: bool = False) -> str:
-    """The library for programs that load it."""
+def shared(folder: str, lag: str, processor: Processor = AMD64, shows: str = "") -> str:
+    """The library for programs that load it, which shows this name, too, if it is one."""
     made = os.path.join(folder, SONAME)
-    script = version_script(folder, *([PORTABLE_SHOWS] if is_portable else []))
+    script = version_script(folder, *([shows] if shows else []))
     words = [f"-Wl,-soname,{SONAME}", "-Wl,--build-id=sha1", f"-Wl,--version-script={script}", "-Wl,--no-undefined", "-Wl,-z,text"]
     words += [f"-Wl,--defsym={old}={new}" for old, new in RENAMED.items()]
     printed(*compiler(processor), "-shared", "-O2", *HARDENING, *words, "-o", made, lag)

@@ -42,6 +42,11 @@ def missing() -> str:
     return ""
 
 
+def target() -> str:
+    """The folder in which cargo builds."""
+    return os.environ.get("CARGO_TARGET_DIR") or os.path.join(TOP, "target")
+
+
 def make_ready() -> None:
     """Has out/rust be what the sources of now give, before cargo reads the workspace."""
     made = subprocess.run(["cargo", "run", "--quiet", OFFLINE, "--package", "eraser"], cwd=TOP, capture_output=True, text=True)

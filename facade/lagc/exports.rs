@@ -33,6 +33,11 @@ use dataplane::SavedPort;
 use std::alloc::Global;
 use super::slices::{slice, slice_mut};
 
+/// Which library a program runs: the native one has no such text.
+#[unsafe(no_mangle)]
+#[allow(non_upper_case_globals, reason = "C has it by this name")]
+pub static niw_lag_rust: [u8; 11] = *b"Rust 0.3.0\0";
+
 /// `lagffi_next_move` of lag.h.
 #[unsafe(no_mangle)]
 pub unsafe extern "C" fn lagffi_next_move(ports: *const u16, port_count: usize, carried: *const Carried, carried_count: usize) -> LagMove {

@@ -2,6 +2,8 @@
 
 mod exports;
 mod memory;
+#[cfg(feature = "pool")]
+mod pool;
 mod slices;
 
 /// Not reached: the sources are proved to reach no panic. It stops the processor's way, without libc.

@@ -3,10 +3,7 @@ use core::alloc::{GlobalAlloc, Layout};
 use core::ffi::c_void;
 
 #[cfg(feature = "pool")]
-#[path = "pool.rs"]
-mod pool;
-#[cfg(feature = "pool")]
-use pool::{free, malloc, realloc};
+use super::pool::{free, malloc, realloc};
 
 #[cfg(not(feature = "pool"))]
 unsafe extern "C" {

@@ -134,8 +134,8 @@ impl<'t> Reader<'t> {
         let word = self.wants_word()?;
         match word.text {
             "ghost" => self.ghost(start),
-            "use" | "static" | "type" => self.to_semicolon(),
-            "const" if !self.sees("fn")? && !self.sees("unsafe")? && !self.sees("extern")? => self.to_semicolon(),
+            "use" | "static" | "type" => self.past_semicolon(),
+            "const" if !self.sees("fn")? && !self.sees("unsafe")? && !self.sees("extern")? => self.past_semicolon(),
             "const" | "unsafe" | "final" => self.item(start),
             "extern" => self.foreign(start, &word),
             "fn" => self.function(),
@@ -283,7 +283,7 @@ impl<'t> Reader<'t> {
     }
 
     /// The rest of an item without clauses, to its semicolon.
-    fn to_semicolon(&mut self) -> Read<()> {
+    fn past_semicolon(&mut self) -> Read<()> {
         loop {
             let found = self.next()?;
             let inner = closing_of(&found);
@@ -299,7 +299,7 @@ impl<'t> Reader<'t> {
     }
 
     /// The tokens to an opening brace or a semicolon, which stays.
-    fn to_brace(&mut self) -> Read<Vec<Token<'t>>> {
+    fn until_brace(&mut self) -> Read<Vec<Token<'t>>> {
         let mut tokens = Vec::new();
         while !self.sees("{")? && !self.sees(";")? {
             match self.peek()? {
@@ -313,7 +313,7 @@ impl<'t> Reader<'t> {
 
     /// The rest of a module or a trait.
     fn block_of_items(&mut self) -> Read<()> {
-        self.to_brace()?;
+        self.until_brace()?;
         if self.takes(";")? {
             return Ok(());
         }
@@ -323,7 +323,7 @@ impl<'t> Reader<'t> {
     }
 
     fn implementation(&mut self, start: usize) -> Read<()> {
-        let head = self.to_brace()?;
+        let head = self.until_brace()?;
         let is_drop = head.iter().zip(head.iter().skip(1)).any(|(one, next)| one.is("Drop") && next.is("for"));
         let inside = self.at;
         self.wants("{")?;
@@ -372,7 +372,7 @@ impl<'t> Reader<'t> {
     }
 
     fn structure(&mut self) -> Read<()> {
-        self.to_brace()?;
+        self.until_brace()?;
         if self.takes(";")? {
             return Ok(());
         }
@@ -410,7 +410,10 @@ impl<'t> Reader<'t> {
         self.wants_word()?;
         self.wants(":")?;
         let mut depth = 0;
-        while !(depth == 0 && self.sees(",")?) && !self.sees("}")? {
+        loop {
+            if self.sees("}")? || (depth == 0 && self.sees(",")?) {
+                break;
+            }
             let found = self.next()?;
             let inner = closing_of(&found);
             if !inner.is_empty() {
@@ -423,7 +426,7 @@ impl<'t> Reader<'t> {
     }
 
     fn enumeration(&mut self) -> Read<()> {
-        self.to_brace()?;
+        self.until_brace()?;
         self.body()
     }
 

@@ -8,7 +8,7 @@ use std::path::{Path, PathBuf};
 const OF_STD: [&str; 2] = ["std_alloc", "std_heap"];
 /// The crate whose functions C calls. Its root has one module more, which has them as C calls them.
 const EXPORTS: &str = "lagffi";
-const LIBRARY: &str = "\n/// The functions as C calls them.\n#[path = \"../../../../facade/lagc/lib.rs\"]\nmod lagc;\n";
+const LIBRARY: &str = "\n/// The functions as C calls them.\n#[cfg(not(test))]\n#[path = \"../../../../facade/lagc/lib.rs\"]\nmod lagc;\n";
 
 /// A crate, and the libraries that it uses.
 struct Member {
@@ -39,6 +39,9 @@ pub fn write_workspace(top: &Path) -> Done<bool> {
     }
     Ok(is_old)
 }
+
+/// The warnings of members that are off, each with its reason.
+const LINTS: &str = include_str!("lints.toml");
 
 /// The build script of each member.
 const BUILD: &str = "fn main() {\n    eraser::build();\n}\n";
@@ -113,5 +116,5 @@ fn dependencies(member: &Member, std: &str, members: &[Member]) -> String {
             writeln!(text, "{library} = {{ package = \"plain-{package}\", path = \"../../../facade/ports/{library}\" }}")
         };
     }
-    text + "\n[lints]\nworkspace = true\n"
+    text + LINTS
 }

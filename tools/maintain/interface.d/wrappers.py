@@ -11,6 +11,7 @@ from typing import Iterator, NamedTuple
 
 import rust
 import sources
+from library import RUST_SHOWS
 from repository import CRATES, Missing, read_text
 from sources import EXPORT, LENGTHS, NAMES, one_line
 
@@ -75,7 +76,19 @@ def owner(kind: str, texts: dict[str, str]) -> str:
     raise Missing(f"no crate has {kind}")
 
 
-def exports() -> str:
+def shown(release: str) -> list[str]:
+    """The text by which a program that loads the library tells which one it is."""
+    text = f"Rust {release}\\0"
+    return [
+        "",
+        "/// Which library a program runs: the native one has no such text.",
+        "#[unsafe(no_mangle)]",
+        "#[allow(non_upper_case_globals, reason = \"C has it by this name\")]",
+        f'pub static {RUST_SHOWS}: [u8; {len(text) - 1}] = *b"{text}";',
+    ]
+
+
+def exports(release: str) -> str:
     """The whole file of the wrappers."""
     texts = {path: read_text(path) for path in sources.files(sources.SOURCES)}
     kinds, modules, rows = set(), set(), []
@@ -87,4 +100,4 @@ def exports() -> str:
             rows += wrapper(module_of(path), name, parameters, answer)
     uses = [f"use crate::{{{', '.join(sorted(modules))}}};", "use super::slices::{slice, slice_mut};", "use std::alloc::Global;"]
     uses += [f"use {owner(it, texts)}::{it};" for it in kinds]
-    return HEAD + "\n".join([*sorted(uses), *rows]) + "\n"
+    return HEAD + "\n".join([*sorted(uses), *shown(release), *rows]) + "\n"
