@@ -9,7 +9,7 @@ import ctypes
 from enum import IntEnum, IntFlag
 from typing import Any, Callable, Final
 
-VERSION: Final = 12
+VERSION: Final = 13
 VERSION_TEXT: Final = "0.3.0"
 FRAME: Final = 124
 PAYLOAD_LENGTH: Final = 110
@@ -825,6 +825,9 @@ class Functions:
         )
         self.set_max_links: Callable[..., int] = _bound(
             library, "lagffi_set_max_links", ctypes.c_uint32, [ctypes.POINTER(NiwSystem), ctypes.c_uint16]
+        )
+        self.set_in_use: Callable[..., int] = _bound(
+            library, "lagffi_set_in_use", ctypes.c_uint32, [ctypes.POINTER(NiwSystem), ctypes.c_uint16, ctypes.c_bool]
         )
         self.active_aggregator: Callable[..., NiwNumber] = _bound(
             library, "lagffi_active_aggregator", NiwNumber, [ctypes.POINTER(NiwSystem), ctypes.c_uint16]

@@ -141,6 +141,11 @@ class System(Handle):
             raise BadConfig(Reason.MAX_LINKS, None)
         check(status)
 
+    def set_in_use(self, aggregator: int, in_use: bool = True) -> None:
+        """Puts an aggregator in use, or out of use; each is in use at first. Ports of one that is not in use stand by, and attach at once, if
+        they have waited 2 s, when it is in use again. Raises NO_AGGREGATOR."""
+        check(self._c.set_in_use(self._at(), _aggregator(aggregator), in_use))
+
     def restart(self) -> None:
         """Starts again as it was made: all links are down, and what `configure` changed is lost."""
         check(self._c.restart(self._at()))

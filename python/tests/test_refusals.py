@@ -15,7 +15,7 @@ from niwhopera._library import functions
 PAGE = os.path.join(os.path.dirname(os.path.abspath(__file__)), "..", "..", "docs", "USING.md")
 CALLS, ROUNDS = 80_000, 60
 # What ends what goes on in a world.
-ENDS = {"new", "free", "restart", "set_link", "configure", "hold", "set_mode", "set_max_links", "queue_new", "queue_free"}
+ENDS = {"new", "free", "restart", "set_link", "configure", "hold", "set_mode", "set_max_links", "set_in_use", "queue_new", "queue_free"}
 NUMBERS = (0, 1, 1, 1, 2, 2, 3, 9, 255, 256, 300, 4096, 65535)
 LENGTHS = (0, 13, 14, 63, 64, 110, 124, 256, 1518, 1519, 4096)
 DATA = bytes(12) + b"\x08\x00" + bytes(1505)

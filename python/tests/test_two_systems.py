@@ -110,6 +110,19 @@ def test_a_held_port_is_in_no_aggregator(world: TwoSystems) -> None:
     assert one.choice(2) == 1 and one.port_status(2) is not PortStatus.HELD
 
 
+def test_an_aggregator_out_of_use_waits(world: TwoSystems) -> None:
+    one = world.systems[1]
+    one.set_in_use(1, False)
+    assert one.distributing(1) == () and one.is_standby(1) and one.is_standby(2) and one.choice(1) == 1
+    play(world, "emit 1 1 -> lacpdu 05 sent; emit 1 2 -> lacpdu 05 sent")
+    one.tick(20)
+    one.set_in_use(1)
+    assert one.distributing(1) == (1, 2) and not one.is_standby(1)
+    with pytest.raises(LagError) as none:
+        one.set_in_use(2)
+    assert none.value.status is Status.NO_AGGREGATOR
+
+
 def test_settings_of_a_running_system(world: TwoSystems) -> None:
     one = world.systems[1]
     one.set_mode(1, active=False, short_timeout=True)

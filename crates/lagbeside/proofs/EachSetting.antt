@@ -4,6 +4,9 @@ use Rattle.lagbeside.proofs.Common.{◌∷◌, ◌≡◌, AggId, Key, Unselected
 use Rattle.lagbeside.proofs.Common.{choice_with_link, key_of, SetsPort, Setting, SettingStep, in_mode, is_held_so, is_in_mode, with_held, Settling}
 use Rattle.lagbeside.proofs.Common.{IsSound, SystemState, port_index, with_table, Step-frame, all-get, all-set, found_place, AsideTimes, Asides}
 use Rattle.lagbeside.proofs.Common.{IsAside, Runs}
+use Rattle.lagtypes.specs.declared.party.Choice.{Choice}
+use Rattle.lagsystem.specs.Uses.{choice_with_use}
+use Rattle.std.proofs.Common.{true}
 use native.Mathlib.Omega.{arith}
 use Rattle.lagbeside.proofs.EachPort.{KeptBySettling, OfEach, settling_each, zip_kept}
 
@@ -14,6 +17,14 @@ KeptBySetting P (Setting.Set_mode n active short) = (p : Machines) → P n p →
 KeptBySetting P (Setting.Set_max_delay max_delay) = Unit {0}
 KeptBySetting P (Setting.Set_max_links max_links) =
     (n : ℕ) (p : Machines) → p.enabled ≡ false → P n p → P n (record p { choice = Unselected })
+KeptBySetting P (Setting.Set_in_use agg now) = (n : ℕ) (p : Machines) → P n p → P n (record p { choice = choice_with_use agg now p.choice })
+
+-- an aggregator that is put in use leaves what is chosen
+pub used_choice : (agg : AggId) (now : Bool) (c : Choice) → now ≡ true → choice_with_use agg now c ≡ c
+used_choice agg now c e = grind arith
+
+pub used_port : (agg : AggId) (now : Bool) (p : Machines) → now ≡ true → record p { choice = choice_with_use agg now p.choice } ≡ p
+used_port agg now p e = ap (λ c. record p { choice = c }) (used_choice agg now p.choice e)
 
 set_each : (P : ℕ → Machines → Type 0) → KeptBySettling P → (n : ℕ) (already : SystemPort → Bool) (change : SystemPort → SystemPort)
     → ((x : SystemPort) → x.number ≡ n → P x.number x.port → P (change x).number (change x).port) → (o : Option ℕ) (old new : SystemState)
@@ -48,6 +59,10 @@ Setting-each P k old new (Setting.Set_max_links max_links) (Ok done) c h t = set
     (zip_kept (λ p q. q ≡ record p { choice = choice_with_link max_links p.enabled p.choice }) P P
     (λ n p q e a. subst (P n) (sym e) (link_kept (P n) max_links p.enabled p (c n p) a)) old.system_ports h.1.0.system_ports h.1.1.0 t)
 Setting-each P k old new (Setting.Set_max_links max_links) (Err fault) c h t = grind arith
+Setting-each P k old new (Setting.Set_in_use agg now) (Ok done) c h t = settling_each P k h.1.0 new h.1.2
+    (zip_kept (λ p q. q ≡ record p { choice = choice_with_use agg now p.choice }) P P
+    (λ n p q e a. subst (P n) (sym e) (c n p a)) old.system_ports h.1.0.system_ports h.1.1.0 t)
+Setting-each P k old new (Setting.Set_in_use agg now) (Err fault) c h t = subst (λ (s : SystemState). OfEach P s.system_ports) (sym h.2) t
 
 -- the aggregators and the configured ports stay
 

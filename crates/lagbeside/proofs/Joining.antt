@@ -259,6 +259,7 @@ module _ (key : Key) (hears : ℕ → Option Party) (n : ℕ) where
       kind_freed : (o : Option Party) (p : Machines) → p.enabled ≡ false → Kind key t w o p → Kind key t w o (record p { choice = Unselected })
       kind_freed None p down a = a
       kind_freed (Some who) p down a = (λ f. absurd (no (sym f)), inl down)
+  others_set t w (Setting.Set_in_use agg now) u = λ m p a other. subst (Kind key t w (hears m)) (sym (used_port agg now p u)) (a other)
 
   -- none of them begins
 
@@ -323,6 +324,7 @@ module _ (key : Key) (hears : ℕ → Option Party) (n : ℕ) where
     set_less (Setting.Set_mode m active short) u = u
     set_less (Setting.Set_max_delay max_delay) u = tt
     set_less (Setting.Set_max_links max_links) u = tt
+    set_less (Setting.Set_in_use agg now) u = u
 
     call_keeps : (t w : ℕ) → t ≤ 30 → (before mid : SystemState) (call : Call) (answer : Reply) → LetsNoneJoin hears n call answer → (call ≡ Tick → ⊥)
         → Step gives before call answer mid → OfEach (Others t w) before.system_ports → OfEach (Others t w) mid.system_ports

@@ -70,6 +70,7 @@ setting_leaves P n c (Setting.Hold_port m held) other = λ p a e. absurd (other 
 setting_leaves P n c (Setting.Set_mode m active short) other = λ p a e. absurd (other e)
 setting_leaves P n c (Setting.Set_max_links max_links) other = λ m p down a e. c p (a e)
 setting_leaves P n c (Setting.Set_max_delay max_delay) other = tt
+setting_leaves P n c (Setting.Set_in_use agg now) other = λ m p a e. subst P (sym (used_port agg now p other)) (a e)
 
 module _ (Is : Call → Reply → Type 0) (P : ℕ → ℕ → Machines → Type 0) (n : ℕ) (g : GoesOn Is P n) (gives : ℕ → ℕ → ℕ → Type 0) where
   beside : (most k : ℕ) (old new : SystemState) → Asides (LeavesPort n) old new → OfEach (AtPort n (P most k)) old.system_ports

@@ -203,16 +203,19 @@ within (k ∷ ks) (suc i) key e = omega (arith, within ks i key e)
 pub known_number : (keys : List Key) (n : ℕ) (key : Key) → key_of keys n ≡ Some key → (nat_le 1 n && nat_le n (length keys)) ≡ true
 known_number keys n key e = grind (arith, nat_tests, none-some, within)
 
-full_of : (max_links : Option ℕ) (known : Bool) (n : ℕ) → known ≡ true → (known && is_below max_links n) ≡ false
+full_of : (max_links : Option ℕ) (n : ℕ) → is_below max_links n ≡ false
     → ((most : ℕ) → max_links ≡ Some most → n ≤ most) → (most : ℕ) × (max_links ≡ Some most) × (n ≡ most)
-full_of max_links known n k h w = grind (arith, nat_tests)
+full_of max_links n h w = grind (arith, nat_tests)
+
+no_room_of : (known used below : Bool) → known ≡ true → ((known && used) && below) ≡ false → (used ≡ false) ⊎ (below ≡ false)
+no_room_of known used below k h = grind (arith, nat_tests)
 
 at_most : (max_links : Option ℕ) (agg : AggId) (ports : List SystemPort) → WithinLimit max_links (views ports) → (most : ℕ)
     → max_links ≡ Some most → length (ports_that_chose agg (views ports)) ≤ most
 at_most max_links agg ports w most e = grind (arith, nat_tests)
 
 pub waits_for_room : (s : SystemState) (i : ℕ) (x : SystemPort) (agg : AggId) → IsSound s → slice_get s.system_ports i ≡ Some x
-    → x.port.choice ≡ Standby agg → IsFull s agg
+    → x.port.choice ≡ Standby agg → HasNoRoom s agg
 waits_for_room s i x agg h e c = let key = h.occupants.key i agg.0 x e (ap occupied c) in
     let known : is_aggregator s.keys agg ≡ true = known_number s.keys agg.0 x.port.party.key key in
     let room : has_room (aggregators_value s) (views s.system_ports) agg ≡ false =
@@ -220,7 +223,11 @@ waits_for_room s i x agg h e c = let key = h.occupants.key i agg.0 x e (ap occup
       | inl r ↦ r
       | inr n ↦ clash (stands_by agg x.port.choice) (stands agg x.port.choice c) (seen_stands agg s.system_ports i x e n)
     ] in
-    grind (arith, nat_tests, full_of, is_aggregator, ports_that_chose, views, at_most)
+    let n = length (ports_that_chose agg (views s.system_ports)) in
+    elim (no_room_of (is_aggregator s.keys agg) (is_in_use s.in_use agg) (is_below s.max_links n) known room) [
+      | inl unused ↦ inl unused
+      | inr full ↦ inr (full_of s.max_links n full (at_most s.max_links agg s.system_ports h.limited))
+    ]
 
 selected_or_stands : (s : SystemState) (i : ℕ) (x : SystemPort) (c : Choice) → x.port.choice ≡ c → IsSound s
     → slice_get s.system_ports i ≡ Some x → (is_unselected c ≡ true → ⊥) → (is_selected c ≡ true) ⊎ StandsByFull s x.port

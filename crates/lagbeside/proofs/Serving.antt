@@ -158,6 +158,7 @@ module _ (u : Service) (c : Choice) (sel : is_selected c ≡ true) (n : ℕ) (gi
   set_kept may left t (Setting.Set_mode m active short) v = λ p a e. absurd (v e)
   set_kept may left t (Setting.Set_max_delay max_delay) v = tt
   set_kept may left t (Setting.Set_max_links max_links) v = λ m p down a e. let s = (a e).0.0 in absurd (no (sym down ∙ s.0))
+  set_kept may left t (Setting.Set_in_use agg now) v = λ m p a e. subst (Climbs u c may left t) (sym (used_port agg now p v)) (a e)
 
   aside_kept : (may : Bool) (left t : ℕ) (old new : SystemState) → Asides (LeavesPort n) old new
       → OfEach (AtPort n (Climbs u c may left t)) old.system_ports → OfEach (AtPort n (Climbs u c may left t)) new.system_ports

@@ -166,6 +166,16 @@ setting_each P k chosen moded old new setting answer = Setting-each P k old new 
     kept (Setting.Set_mode n active short) = λ p a. moded n p active short a
     kept (Setting.Set_max_delay max_delay) = tt
     kept (Setting.Set_max_links max_links) = λ n p down a. chosen n p Unselected a
+    kept (Setting.Set_in_use agg now) = λ n p a. chosen n p (choice_with_use agg now p.choice) a
+
+-- current_while of a port with another mode
+moded : (r : ReceiveState) (n : ℕ) (b : Bool) → n ≤ most_current_while r → (if same_receive_state Current r && b then 900 else n) ≤ most_current_while r
+moded Current n true a = omega arith
+moded Current n false a = a
+moded Expired n b a = a
+moded Defaulted n b a = a
+moded Initialize n b a = a
+moded PortDisabled n b a = a
 
 -- current_while of a port with another mode
 moded : (r : ReceiveState) (n : ℕ) (b : Bool) → n ≤ most_current_while r → (if same_receive_state Current r && b then 900 else n) ≤ most_current_while r

@@ -17,7 +17,7 @@ use Rattle.lagsystem.specs.declared.received.Received.TheVariants.{TookLacpdu}
 use Rattle.lagsystem.specs.declared.system_ports.SystemPort.{SystemPort}
 use Rattle.lagsystem.specs.Calls.{Call, Carries, Configure, IsFrame, Receive, Restart, Set_link}
 use Rattle.lagsystem.specs.ModelView.{key_of}
-use Rattle.lagsystem.specs.Settings.{Hold_port, Set_mode, Setting}
+use Rattle.lagsystem.specs.Settings.{Hold_port, Set_in_use, Set_mode, Setting}
 use Rattle.lagsystem.specs.Sound.{IsSound}
 use Rattle.lagsystem.specs.State.{SystemState}
 use Rattle.lagbeside.specs.Heartbeat.{EachCall, tick_count}
@@ -51,10 +51,11 @@ LetsNoneJoin hears n (Configure m change) answer = m ≡ n
 LetsNoneJoin hears n Restart answer = ⊥
 LetsNoneJoin hears n call answer = Unit {0}
 
--- the setting leaves port n, and no port with a party is held or let go
+-- the setting leaves port n, and no port with a party is held or let go, nor is an aggregator put out of use
 abbrev pub SetsNoneFree : (ℕ → Option Party) → ℕ → Setting → Type 0
 SetsNoneFree hears n (Hold_port m held) = (m ≢ n) × (hears m ≡ None)
 SetsNoneFree hears n (Set_mode m active short) = m ≢ n
+SetsNoneFree hears n (Set_in_use agg now) = now ≡ true
 SetsNoneFree hears n setting = Unit {0}
 
 -- An aggregator of a sound system has this key, and for at most 30 ticks each other port of the key hears the party that it has recorded,

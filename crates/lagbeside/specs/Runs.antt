@@ -3,14 +3,15 @@ use Rattle.std.specs.Prelude.{◌≡◌, ◌≢◌, ◌⊎◌, ℕ, zero, suc, B
 use Rattle.lagsystem.specs.declared.drive.Reply.{Reply}
 use Rattle.lagsystem.specs.declared.fault.SystemFault.{SystemFault}
 use Rattle.lagsystem.specs.Calls.{Call, Step, Tick}
-use Rattle.lagsystem.specs.Settings.{Hold_port, Set_mode, Setting, SettingStep}
+use Rattle.lagsystem.specs.Settings.{Hold_port, Set_in_use, Set_mode, Setting, SettingStep}
 use Rattle.lagsystem.specs.Sound.{IsSound}
 use Rattle.lagsystem.specs.State.{SystemState, with_table}
 
--- the setting neither holds port n, nor lets it go, nor changes its mode
+-- the setting neither holds port n, nor lets it go, nor changes its mode, nor puts an aggregator out of use
 abbrev pub LeavesPort : ℕ → Setting → Type 0
 LeavesPort n (Hold_port m held) = m ≢ n
 LeavesPort n (Set_mode m active short) = m ≢ n
+LeavesPort n (Set_in_use agg now) = now ≡ true
 LeavesPort n setting = Unit {0}
 
 -- the setting makes port n active only if it may be that; it may make it passive

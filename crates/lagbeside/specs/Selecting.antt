@@ -10,11 +10,10 @@ use Rattle.lagsystem.specs.Views.{selection_view}
 use Rattle.portmachines.specs.declared.receive.ReceiveState.TheVariants.{Current, Defaulted}
 use Rattle.portmachines.specs.Machines.{Machines}
 use Rattle.portmachines.specs.Mux.{selected}
-use Rattle.selection.specs.Choice.{ports_that_chose}
 use Rattle.lagsystem.specs.declared.system_ports.SystemPort.{SystemPort}
 use Rattle.lagsystem.specs.Sound.{IsSound}
 use Rattle.lagsystem.specs.State.{SystemState}
-use Rattle.lagsystem.specs.Views.{views}
+use Rattle.lagsystem.specs.StatusMeaning.{HasNoRoom}
 
 -- how many aggregators have this key
 abbrev pub aggregators_with : Key → SystemState → ℕ
@@ -30,25 +29,21 @@ pub record WantsAggregator (p : Machines) : Type 0 where
   pub known : (p.receive ≡ Current) ⊎ (p.receive ≡ Defaulted)
   pub apart : p.partner.system ≢ p.party.system
 
--- the system has a limit of links, and the aggregator has as many members
-abbrev pub IsFull : SystemState → AggId → Type 0
-IsFull s agg = (most : ℕ) × (s.max_links ≡ Some most) × (length (ports_that_chose agg (views s.system_ports)) ≡ most)
-
--- the port is STANDBY with an aggregator that is full
+-- the port is STANDBY with an aggregator that has no room: it is not in use, or has as many members as the limit of links
 abbrev pub StandsByFull : SystemState → Machines → Type 0
-StandsByFull s p = (agg : AggId) × (p.choice ≡ Standby agg) × IsFull s agg
+StandsByFull s p = (agg : AggId) × (p.choice ≡ Standby agg) × HasNoRoom s agg
 
--- in a sound system, each port that wants an aggregator, and that the host does not hold, is SELECTED, or STANDBY with a full one,
+-- in a sound system, each port that wants an aggregator, and that the host does not hold, is SELECTED, or STANDBY with one that has no room,
 -- if there are at least as many aggregators of its key as ports of its key
 abbrev pub FindsAggregator : Type 0
 FindsAggregator = (s : SystemState) (i : ℕ) (x : SystemPort) → IsSound s → slice_get s.system_ports i ≡ Some x
     → WantsAggregator x.port → x.held ≡ false
     → ports_with x.port.party.key s ≤ aggregators_with x.port.party.key s → (selected x.port ≡ true) ⊎ StandsByFull s x.port
 
--- in a sound system, each port that is STANDBY with an aggregator is so with a full one
+-- in a sound system, each port that is STANDBY with an aggregator is so with one that has no room
 abbrev pub WaitsForRoom : Type 0
 WaitsForRoom = (s : SystemState) (i : ℕ) (x : SystemPort) (agg : AggId) → IsSound s → slice_get s.system_ports i ≡ Some x
-    → x.port.choice ≡ Standby agg → IsFull s agg
+    → x.port.choice ≡ Standby agg → HasNoRoom s agg
 
 -- the link of the port is not Individual, and the links of all ports of its key that are not UNSELECTED have its group (LAG ID)
 pub record SharesGroup (s : SystemState) (x : SystemPort) : Type 0 where

@@ -50,7 +50,7 @@ struct niw_queue {
 #define NIW_EMPTY {false, NULL}
 
 /* The version of this header: it goes up by one with each change of the interface. */
-#define NIW_VERSION 12
+#define NIW_VERSION 13
 /* The version of the release that the header is of. */
 #define NIW_VERSION_TEXT "0.3.0"
 /* The octets of a frame that the library answers. */
@@ -501,6 +501,7 @@ uint32_t lagffi_hold(struct niw_system *handle, uint16_t port, bool hold);
 uint32_t lagffi_set_mode(struct niw_system *handle, uint16_t port, bool active, bool short_timeout);
 uint32_t lagffi_set_max_delay(struct niw_system *handle, uint16_t max_delay);
 uint32_t lagffi_set_max_links(struct niw_system *handle, uint16_t max_links);
+uint32_t lagffi_set_in_use(struct niw_system *handle, uint16_t agg, bool in_use);
 struct niw_number lagffi_active_aggregator(struct niw_system *handle, uint16_t now);
 struct niw_number lagffi_conversation(struct niw_system *handle, const uint8_t *frame, size_t length);
 struct niw_assignment lagffi_conversation_state(struct niw_system *handle, uint16_t agg, uint16_t conv);
@@ -849,6 +850,13 @@ static inline uint32_t niw_set_max_delay(struct niw_system *handle, uint16_t max
 /* Sets how many links an aggregator may have, 1 to 64; 0 for no limit. Ports that stand by come up where there is room now. */
 static inline uint32_t niw_set_max_links(struct niw_system *handle, uint16_t max_links) {
     return handle ? lagffi_set_max_links(handle, max_links) : niw_null_status();
+}
+
+/* Puts an aggregator in use, or out of use; each is in use at first. Ports of one that is not in use stand by: they wait, carry nothing, and
+ * tell their peers so. Once it is in use again, a port that has waited 2 s attaches at once. A program that uses one aggregator at a time
+ * puts the old one out of use and then the new one in use: nothing is sent between two calls. niw_restart keeps what was set. */
+static inline uint32_t niw_set_in_use(struct niw_system *handle, uint16_t agg, bool in_use) {
+    return handle ? lagffi_set_in_use(handle, agg, in_use) : niw_null_status();
 }
 
 /* The aggregator that carries the frames of the client, or 0 if no port distributes. `now` is the one that carried them before, or 0 for

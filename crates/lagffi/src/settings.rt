@@ -1,4 +1,5 @@
 ghost use Rattle.std.specs.Prelude.{◌≡◌, Ok, Result};
+ghost use Rattle.lagsystem.specs.Readers.{aggregator_numbered};
 ghost use Rattle.lagsystem.specs.Settings.{Setting, SettingPromise};
 ghost use Rattle.lagsystem.specs.declared.fault.SystemFault.{SystemFault};
 ghost use Rattle.lagffi.specs.Asking.{CallsHeldSystem};
@@ -10,10 +11,11 @@ use crate::handle::Lag;
 use crate::made::limit;
 use crate::stored::by_number;
 use crate::values::{NO_SYSTEM, OK, status};
+use lagsystem::AggId;
 use std::alloc::Global;
 
 // promise: a setting is the system's own; a limit of 0 is none
-// contract: `lagffi_hold`, `lagffi_set_mode`, `lagffi_set_max_delay`, `lagffi_set_max_links` (`SettingPromise`)
+// contract: `lagffi_hold`, `lagffi_set_mode`, `lagffi_set_max_delay`, `lagffi_set_max_links`, `lagffi_set_in_use` (`SettingPromise`)
 /// Holds a port, or lets it go. A held port leaves its aggregator, and chooses none until it is let go: its conversations leave it behind a
 /// marker, and its peer takes it out of use, too. It goes on sending and processing LACPDUs, and answers markers.
 /// Refuses: NIW_NO_SYSTEM, NIW_NO_PORT.
@@ -80,6 +82,25 @@ pub extern "C" fn lagffi_set_max_links(alloc: Global, lag: &mut Lag, max_links: 
         return NO_SYSTEM;
     };
     let answer = system.set_max_links(limit(max_links));
+    lag.put(system, block);
+    status(&answer)
+}
+
+/// Puts an aggregator in use, or out of use; each is in use at first. Ports of one that is not in use stand by: they wait, carry nothing, and
+/// tell their peers so. Once it is in use again, a port that has waited 2 s attaches at once. A program that uses one aggregator at a time
+/// puts the old one out of use and then the new one in use: nothing is sent between two calls. niw_restart keeps what was set.
+/// Refuses: NIW_NO_SYSTEM, NIW_NO_AGGREGATOR.
+#[unsafe(no_mangle)]
+pub extern "C" fn lagffi_set_in_use(alloc: Global, lag: &mut Lag, agg: u16, in_use: bool) -> u32
+    ensures { CallsHeldSystem (held_value lag.old.held.kept) (held_value lag.new.held.kept)
+        (λ old new. (answer : Result Unit SystemFault)
+        × SettingPromise old (Setting.Set_in_use (aggregator_numbered agg) in_use) answer new × (result ≡ status_of answer))
+        (result ≡ no_system) }
+{
+    let Some((mut system, block)) = lag.take(alloc, by_number) else {
+        return NO_SYSTEM;
+    };
+    let answer = system.set_in_use(AggId(agg), in_use);
     lag.put(system, block);
     status(&answer)
 }

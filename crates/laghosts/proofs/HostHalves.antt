@@ -77,6 +77,8 @@ setting_keys old (Setting.Set_max_delay max_delay) (Err fault) new h = absurd h
 setting_keys old (Setting.Set_max_links max_links) (Ok done) new h =
     settled_keys h.1.0 new h.1.2 ∙ ap (λ (s : SystemState). s.keys) h.1.1.1
 setting_keys old (Setting.Set_max_links max_links) (Err fault) new h = ap (λ (s : SystemState). s.keys) h.1
+setting_keys old (Setting.Set_in_use agg now) (Ok done) new h = settled_keys h.1.0 new h.1.2 ∙ ap (λ (s : SystemState). s.keys) h.1.1.1
+setting_keys old (Setting.Set_in_use agg now) (Err fault) new h = ap (λ (s : SystemState). s.keys) h.2
 
 -- the parties stay in a setting
 setting_party : (setting : Setting) (a : Result Unit SystemFault) (old new : SystemState) → SettingPromise old setting a new → (p : ℕ)

@@ -39,7 +39,10 @@ chose_occupies agg c h = grind (arith, nat_tests)
 
 pub never_stands : (s : SystemState) (i : ℕ) (x : SystemPort) (agg : AggId) → IsSound s → EnoughLinks s → slice_get s.system_ports i ≡ Some x
     → x.port.choice ≡ Standby agg → ⊥
-never_stands s i x agg h enough there stands = let full = waits_for_room s i x agg h there stands in
+never_stands s i x agg h enough there stands = let full : IsFull s agg = elim (waits_for_room s i x agg h there stands) [
+      | inl unused ↦ absurd (no (sym unused ∙ enough.1 agg))
+      | inr f ↦ f
+    ] in
     let key = x.port.party.key in
     let one : SystemPort → Bool = λ y. has_chosen agg y.port.choice in
     let other : SystemPort → Bool = λ y. y.port.party.key.0 == key.0 in
@@ -48,7 +51,7 @@ never_stands s i x agg h enough there stands = let full = waits_for_room s i x a
     (λ j y e c. (let same : y.port.party.key ≡ key = same_Some y.port.party.key key
     (sym (h.occupants.key j agg.0 y e (chose_occupies agg y.port.choice c)) ∙ its) in
     ap (λ (q : Key). q.0 == key.0) same ∙ itself key.0)) i x there (ap (has_chosen agg) stands) (itself key.0) in
-    let most : ports_with key s ≤ full.0 = enough i full.0 x there full.1 in
+    let most : ports_with key s ≤ full.0 = enough.0 i full.0 x there full.1 in
     let members : count one s.system_ports ≡ full.0 = sym (members_counted agg s.system_ports) ∙ full.2 in
     let ports : ports_with key s ≡ count other s.system_ports = counted other s.system_ports in
     too_many (ports_with key s) (count one s.system_ports) (count other s.system_ports) full.0 more most members ports

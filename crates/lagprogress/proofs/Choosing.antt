@@ -100,7 +100,7 @@ none_promoted s agg l m h same p = let n = is_next (aggregators_value s) (views 
     let x = same_at s.system_ports l p.0 p.1 same p.3 in
     let stand = next_stands (aggregators_value s) agg l m p in
     elim (none_is_next (aggregators_value s) (views s.system_ports) agg (h.promoted agg)) [
-      | inl full ↦ no (sym full ∙ (sym (ap (λ c. is_aggregator s.keys agg && is_below s.max_links c) (same_members agg s.system_ports l same))
+      | inl full ↦ no (sym full ∙ (sym (ap (λ c. (is_aggregator s.keys agg && is_in_use s.in_use agg) && is_below s.max_links c) (same_members agg s.system_ports l same))
           ∙ n.room))
       | inr none ↦ clash (has_choice x.0) (stands agg x.0.port.choice (sym x.2.choice ∙ stand)) (seen_stands agg s.system_ports p.0 x.0 x.1 none)
     ]

@@ -249,9 +249,11 @@ delay_quietly gives s delay old new x = grind (arith, nat_tests)
 abbrev Withstands : ℕ → (Machines → Type 0) → Setting → Type 0
 Withstands p P (Hold_port n held) = n ≡ p → (x : SystemPort) → P x.port → P (with_held held x).port
 Withstands p P (Set_mode n active short) = n ≡ p → (x : SystemPort) → P x.port → P (in_mode active short x).port
+Withstands p P (Set_in_use agg now) = (x : Machines) → P x → P (record x { choice = choice_with_use agg now x.choice })
 Withstands p P setting = Unit {0}
 
 left_alone : (at : Side → ℕ) (s : Side) (P : Machines → Type 0) (setting : Setting) → LeavesPorts at (Sets s setting) → Withstands (at s) P setting
+left_alone at s P (Set_in_use agg now) h = λ x a. subst P (sym (used_port agg now x h)) a
 left_alone at s P setting h = grind (arith, nat_tests)
 
 set_beside : (n m : ℕ) (P : Machines → Type 0) → KeptBySettling (AtPort n P) → (already : SystemPort → Bool) (change : SystemPort → SystemPort)
@@ -295,6 +297,10 @@ setting_beside p P k (Set_max_links most) stands (Ok done) old new h up y = sett
     (λ m q r e a f. subst P (sym (e ∙ limited_port most q (a.1 f))) (a.0 f)) old.system_ports h.1.0.system_ports h.1.1.0
     (each_both (AtPort p P) (AtPort p IsUp) old.system_ports y up))
 setting_beside p P k (Set_max_links most) stands (Err fault) old new h up y = grind (arith, nat_tests)
+setting_beside p P k (Set_in_use agg now) stands (Ok done) old new h up y = settling_each (AtPort p P) k h.1.0 new h.1.2
+    (zip_kept (λ q r. r ≡ record q { choice = choice_with_use agg now q.choice }) (AtPort p P) (AtPort p P)
+    (λ m q r e a f. subst P (sym e) (stands q (a f))) old.system_ports h.1.0.system_ports h.1.1.0 y)
+setting_beside p P k (Set_in_use agg now) stands (Err fault) old new h up y = subst (λ (s : SystemState). OfEach (AtPort p P) s.system_ports) (sym h.2) y
 
 -- no setting takes a link down
 up_withstands : (p : ℕ) (setting : Setting) → Withstands p IsUp setting

@@ -124,6 +124,7 @@ played_alike E gives n old new steady h = alike_on gives old new steady (played_
 pub record IsAsBefore (s : Side) (old new : WorldState) : Type 0 where
   pub keys : (half s new).state.keys ≡ (half s old).state.keys
   pub limit : (half s new).state.max_links ≡ (half s old).state.max_links
+  pub used : (half s new).state.in_use ≡ (half s old).state.in_use
   pub numbers : port_numbers (half s new).state.system_ports ≡ port_numbers (half s old).state.system_ports
   pub alike : (k : ℕ) (x y : SystemPort) → slice_get (half s old).state.system_ports k ≡ Some x
       → slice_get (half s new).state.system_ports k ≡ Some y → Alike x.port y.port
@@ -136,6 +137,7 @@ before_on gives old new steady h s = let now = steady_on gives old new h steady 
     record {
       keys = same_on gives old new h (List Key) (λ t. t.keys) (λ t a b. refl) (λ t a. refl) (λ t d. refl) s;
       limit = same_on gives old new h (Option ℕ) (λ t. t.max_links) (λ t a b. refl) (λ t a. refl) (λ t d. refl) s;
+      used = same_on gives old new h (List Bool) (λ t. t.in_use) (λ t a b. refl) (λ t a. refl) (λ t d. refl) s;
       numbers = numbers;
       alike = λ k x y e f. all-get (λ (z : SystemPort). AtPort x.number (Alike x.port) z.number z.port) (half s new).state.system_ports k y f
           (alike_on gives old new steady h s k x e)
@@ -177,11 +179,17 @@ still_one s old new b key was e one = grind (arith, nat_tests)
 pub still_aggregators : (s : Side) (old new : WorldState) → IsAsBefore s old new → EnoughAggregators (half s old).state → EnoughAggregators (half s new).state
 still_aggregators s old new b enough k y there up = grind (arith, nat_tests, old_port, half, still_enough)
 
+pub still_used : (s : Side) (old new : WorldState) → IsAsBefore s old new → AllInUse (half s old).state → AllInUse (half s new).state
+still_used s old new b used agg = ap (λ l. is_in_use l agg) b.used ∙ used agg
+
 pub still_links : (s : Side) (old new : WorldState) → IsAsBefore s old new → EnoughLinks (half s old).state → EnoughLinks (half s new).state
-still_links s old new b enough k most y there limit =
-    let x = old_port (half s old).state.system_ports (half s new).state.system_ports k y b.numbers there in
-    subst (λ (q : Party). ports_with q.key (half s new).state ≤ most) (sym (b.alike k x.0 y x.1 there).0)
-    (subst (λ n. n ≤ most) (sym (same_ports_with s old new b x.0.port.party.key)) (enough k most x.0 x.1 (sym b.limit ∙ limit)))
+still_links s old new b enough = (
+  λ k most y there limit.
+      let x = old_port (half s old).state.system_ports (half s new).state.system_ports k y b.numbers there in
+      subst (λ (q : Party). ports_with q.key (half s new).state ≤ most) (sym (b.alike k x.0 y x.1 there).0)
+      (subst (λ n. n ≤ most) (sym (same_ports_with s old new b x.0.port.party.key)) (enough.0 k most x.0 x.1 (sym b.limit ∙ limit))),
+  still_used s old new b enough.1,
+)
 
 -- a port whose link is up ended a healthy cable before
 pub still_heard : (Holds : LinkState → WorldState → Type 0) (s : Side) (old new : WorldState) → IsAsBefore s old new → AllHeard Holds old

@@ -206,9 +206,11 @@ module _ (Holds : LinkState → WorldState → Type 0) (t : Side) (gives : Algor
     | inl k ↦ inl (same i l y k)
     | inr k ↦ (let st = (half t new).state in
         let e = end_of (StandsByFull st) (port_at t l) st k in
+        let used : is_in_use st.in_use e.4.0 ≡ true = still_used t old new (played_before OldArrive gives n old new b.steady h t) b.used e.4.0 in
+        let full : IsFull st e.4.0 = elim e.4.2 [ inl unused ↦ absurd (no (sym unused ∙ used)) | inr full ↦ full ] in
         inr (subst (OfPort (λ p. (agg : AggId) × (p.choice ≡ Standby agg) × CarriesOnAll t agg new))
         (sym (machines_there (port_at t l) st e.0 e.1 e.2 e.3))
-        (e.4.0, e.4.1, record { full = e.4.2; members = λ k x there chose. member e.4.0 k x there chose })))
+        (e.4.0, e.4.1, record { full = full; members = λ k x there chose. member e.4.0 k x there chose })))
   ]
 
 pub each_limited_link_agrees : (Holds : LinkState → WorldState → Type 0) (first : ℕ) (gives : Algorithms) → LinksMeet Holds first gives

@@ -1,7 +1,7 @@
 -- Late rounds in which hosts set other ports: a link that is up stays up (6.4.2.3, 6.4.7, 6.4.8; profile).
 use Rattle.std.specs.Prelude.{◌≡◌, ◌≢◌, ◌≤◌, ℕ, suc, Some}
 use Rattle.lagmodel.specs.World.{Side}
-use Rattle.lagsystem.specs.Settings.{Hold_port, Set_mode}
+use Rattle.lagsystem.specs.Settings.{Hold_port, Set_in_use, Set_mode}
 use Rattle.laghosts.specs.HostEvents.{HostEvent, Sets}
 use Rattle.lagworld.specs.declared.agreement.Agreement.TheVariants.{Same}
 use Rattle.lagworld.specs.Agreement.{agreement_at}
@@ -15,10 +15,11 @@ use Rattle.lagprogress.specs.LateRounds.{LateRounds, OldArrive}
 use Rattle.lagprogress.specs.Rounds.{AtEnd, IsHealthyAt}
 
 -- What may come between ticks beside the ports with these numbers, one of each system: what hosts do between ticks, and any setting that
--- neither holds these ports, nor lets them go, nor sets their modes. So other ports are held, let go and set, and limits of links are set.
+-- neither holds these ports, nor lets them go, nor sets their modes, nor puts an aggregator out of use. So other ports are held, let go and set, and limits of links are set.
 abbrev pub LeavesPorts : (Side → ℕ) → HostEvent → Type 0
 LeavesPorts at (Sets s (Hold_port port held)) = port ≢ at s
 LeavesPorts at (Sets s (Set_mode port active short)) = port ≢ at s
+LeavesPorts at (Sets s (Set_in_use agg now)) = now ≡ true
 LeavesPorts at (Sets s setting) = Unit {0}
 LeavesPorts at e = IsBetweenTicks e
 

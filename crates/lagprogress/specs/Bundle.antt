@@ -4,6 +4,7 @@ use Rattle.lagmodel.specs.World.{IsCabling, Side, One, Two}
 use Rattle.portmachines.specs.Mux.{selected}
 use Rattle.lagsystem.specs.declared.system_ports.SystemPort.{SystemPort}
 use Rattle.lagsystem.specs.State.{SystemState}
+use Rattle.lagsystem.specs.Uses.{AllInUse}
 use Rattle.lagscript.specs.declared.event.Event.{Event}
 use Rattle.lagscript.specs.declared.config.WorldConfig.{WorldConfig}
 use Rattle.lagscript.specs.Configs.{world_refusal}
@@ -59,10 +60,11 @@ abbrev pub EnoughAggregators : SystemState → Type 0
 EnoughAggregators s = (k : ℕ) (x : SystemPort) → slice_get s.system_ports k ≡ Some x → x.port.enabled ≡ true
     → ports_with x.port.party.key s ≤ aggregators_with x.port.party.key s
 
--- if there is a limit of links, no more ports than that have the key of a port
+-- if there is a limit of links, no more ports than that have the key of a port; and each aggregator is in use
 abbrev pub EnoughLinks : SystemState → Type 0
-EnoughLinks s = (k most : ℕ) (x : SystemPort) → slice_get s.system_ports k ≡ Some x → s.max_links ≡ Some most
-    → ports_with x.port.party.key s ≤ most
+EnoughLinks s =
+    ((k most : ℕ) (x : SystemPort) → slice_get s.system_ports k ≡ Some x → s.max_links ≡ Some most → ports_with x.port.party.key s ≤ most)
+    × AllInUse s
 
 -- The world is steady; its two systems differ, and each has aggregators and enough links; no port has two cables, and each port
 -- whose link is up ends a healthy cable, of which this holds. Other cables may be cut, have a limit, or end at ports whose links

@@ -18,7 +18,8 @@ use Rattle.lagworld.specs.Sound.{IsSound, IsStart}
 use Rattle.lagworld.specs.State.{LinkState, WorldState, half}
 use Rattle.lagprogress.specs.Bundle.{AllHeard, EnoughLinks, SystemsDiffer}
 use Rattle.lagprogress.specs.Rounds.{AtEnd, IsHealthyAt, Playing}
-use Rattle.lagbeside.specs.Selecting.{IsFull}
+use Rattle.lagsystem.specs.StatusMeaning.{IsFull}
+use Rattle.lagsystem.specs.Uses.{AllInUse}
 use Rattle.lagprogress.specs.Shared.{HasAggregators}
 use Rattle.lagprogress.specs.Steady.{IsSteady}
 
@@ -50,7 +51,7 @@ EachReachedHasDownUnselected gives = (configs : List Config) (es : List Event) (
 
 -- Both systems are steady and differ, each has aggregators, and each port whose link is up ends a healthy cable, of which
 -- this holds. One system, t, may have any limit of links; no port of it whose link is down is SELECTED or STANDBY. The limit of
--- the other, if it has one, is no less than the ports of one key.
+-- the other, if it has one, is no less than the ports of one key. Each aggregator of both is in use.
 pub record IsLimitedBundle (Holds : LinkState → WorldState → Type 0) (t : Side) (j : WorldState) : Type 0 where
   pub steady : IsSteady j
   pub differ : SystemsDiffer j
@@ -58,6 +59,7 @@ pub record IsLimitedBundle (Holds : LinkState → WorldState → Type 0) (t : Si
   pub aggregators : (s : Side) → HasAggregators s j
   pub down : DownAreUnselected (half t j).state
   pub links : EnoughLinks (half (peer t) j).state
+  pub used : AllInUse (half t j).state
 
 -- After so many rounds or more, whatever was before them, the agreement of each healthy cable of such a bundle is Same, or its end at t
 -- is STANDBY in an aggregator that has as many members as the limit, and the agreement of the cable of each is Same.

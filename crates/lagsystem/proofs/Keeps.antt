@@ -1,5 +1,5 @@
 -- Every call preserves the configuration of a system, and the numbers of its ports.
-use Rattle.lagsystem.proofs.Common.{Bool, List, None, Option, Some, [], ap, arith, false, if◌then◌else◌, inl, inr, length, nat_le, refl, slice_get}
+use Rattle.lagsystem.proofs.Common.{Bool, List, None, Option, Some, [], ap, arith, false, if◌then◌else◌, inl, inr, length, nat_le, refl, slice_get, replicate}
 use Rattle.lagsystem.proofs.Common.{slice_set, subst, suc, sym, true, zero, ℕ, ◌∙◌, ◌∷◌, ◌≡◌, ◌≤◌, ◌⊎◌, and_parts, nat_tests, length-map, AllZip, Key}
 use Rattle.lagsystem.proofs.Common.{SystemId, Choice, Selected, Machines, mux_rows, RunsPeriodic, RunsToRest, after_sending, AggregatorsValue, Free}
 use Rattle.lagsystem.proofs.Common.{Table, assignment_of, first_table, PortConfig, Reply, BadConfig, SystemPort, Call, ChangesParty, FreesIfDown}
@@ -220,6 +220,7 @@ started config keys most start = record {
   conversations = config.conversations;
   keys = keys;
   max_links = most;
+  in_use = replicate (length keys) true;
   ports = config.ports.items;
   system_ports = start;
   table = first_table (length keys) config.conversations config.first_marker;
@@ -266,8 +267,8 @@ ports_made config keys most start new e limit a h k =
     })
 
 -- the same, from the table that the distributor begins with
-pub started_by : (config : Config) (keys : List Key) (most : Option ℕ) (start : List SystemPort) (t : Table) (new : SystemState)
-    → t ≡ first_table (length keys) config.conversations config.first_marker
+pub started_by : (config : Config) (keys : List Key) (most : Option ℕ) (used : List Bool) (start : List SystemPort) (t : Table) (new : SystemState)
+    → t ≡ first_table (length keys) config.conversations config.first_marker → used ≡ replicate (length keys) true
     → SettlesPorts (record {
       system = config.system;
       max_delay = config.max_delay;
@@ -275,8 +276,9 @@ pub started_by : (config : Config) (keys : List Key) (most : Option ℕ) (start 
       conversations = t.conversations;
       keys = keys;
       max_links = most;
+      in_use = used;
       ports = config.ports.items;
       system_ports = start;
       table = t;
     }) new → SettlesPorts (started config keys most start) new
-started_by config keys most start t new e h = grind (arith, nat_tests)
+started_by config keys most used start t new e u h = grind (arith, nat_tests)

@@ -1,4 +1,5 @@
 -- How many members an aggregator has, and that no STANDBY port comes next after step 2 of settling.
+use Rattle.selection.specs.Limits.{is_in_use}
 use Rattle.lagsystem.proofs.Common.{Bool, List, None, Option, Some, [], ap, arith, cond, eqb-true, false, inl, inr, length, nat_le, nat_lt}
 use Rattle.lagsystem.proofs.Common.{option_map, refl, slice_get, slice_set, subst, suc, sym, true, zero, ℕ, ◌&&◌, ◌+◌, ◌<◌, ◌==◌, ◌∙◌, ◌∷◌, ◌≡◌, ◌≤◌}
 use Rattle.lagsystem.proofs.Common.{◌⊎◌, cases_Bool, nat_tests, none-some, same_Some, AllByRecursion, AllZip, AggId, Choice, Selected, Standby}
@@ -116,7 +117,7 @@ choosing_within aggs old new h w = let P : List SystemPort → Type 0 = λ l. Wi
     subst P (sym h.2)
     (choices_keep aggs P (λ l i s e q. choice_within aggs l i s (aggregator_for aggs.keys l s) e (set_itself l i s e) q) (length h.0) h.0
     (promotions_keep aggs P (λ agg l m x q. subst P (sym x.4)
-    (selected_within aggs.max_links l x.0 x.1 agg (is_aggregator aggs.keys agg) ((is_next aggs (views l) agg x.0 x.2).room) q))
+    (selected_within aggs.max_links l x.0 x.1 agg (is_aggregator aggs.keys agg && is_in_use aggs.in_use agg) ((is_next aggs (views l) agg x.0 x.2).room) q))
     (length aggs.keys) old h.0 h.1 w))
 
 none_counted : (agg : AggId) (l : List SystemPort) → AllByRecursion (λ s. s.port.choice ≡ Unselected) l → count agg l ≡ 0

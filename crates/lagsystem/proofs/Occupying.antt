@@ -151,11 +151,19 @@ abbrev pub OccupiesAsBefore : Machines → Machines → Type 0
 OccupiesAsBefore p q = (occupied q.choice ≡ None)
     ⊎ ((occupied q.choice ≡ occupied p.choice) × (q.party ≡ p.party) × (party_of q.partner ≡ party_of p.partner))
 
-abbrev EachOccupies : List SystemPort → List SystemPort → Type 0
+abbrev pub EachOccupies : List SystemPort → List SystemPort → Type 0
 EachOccupies old new = (j : ℕ) (t : SystemPort) → slice_get new j ≡ Some t
     → (s : SystemPort) × (slice_get old j ≡ Some s) × OccupiesAsBefore s.port t.port
 
-occupants_kept : (keys : List Key) (old new : List SystemPort) → EachOccupies old new → OccupantsAgree keys old → OccupantsAgree keys new
+pub zip_occupies : (R : Machines → Machines → Type 0) → ((p q : Machines) → R p q → OccupiesAsBefore p q) → (xs ys : List SystemPort)
+    → PortsChangeBy R xs ys → EachOccupies xs ys
+zip_occupies R k [] [] h j t g = absurd (none-some t g)
+zip_occupies R k [] (y ∷ ys) h j t g = absurd h
+zip_occupies R k (x ∷ xs) [] h j t g = absurd h
+zip_occupies R k (x ∷ xs) (y ∷ ys) h zero t g = grind (arith, nat_tests)
+zip_occupies R k (x ∷ xs) (y ∷ ys) h (suc j) t g = zip_occupies R k xs ys h.1 j t g
+
+pub occupants_kept : (keys : List Key) (old new : List SystemPort) → EachOccupies old new → OccupantsAgree keys old → OccupantsAgree keys new
 occupants_kept keys old new h a = grind (arith, nat_tests)
 
 pub stay_agrees : (keys : List Key) (old new : List SystemPort) → EachStays old new → OccupantsAgree keys old → OccupantsAgree keys new

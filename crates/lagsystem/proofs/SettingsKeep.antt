@@ -1,5 +1,11 @@
 -- Every setting keeps the invariant of a system, and is a list of lawful moves.
-use Rattle.lagsystem.proofs.Common.{Bool, Err, List, None, Ok, Option, Result, Some, [], ap, arith, cond, false, if◌then◌else◌, inl, inr, length}
+use Rattle.selection.specs.Limits.{with_use}
+use Rattle.std.proofs.Common.{not, ◌==◌}
+use Rattle.lagsystem.specs.Uses.{PutsInUse, choice_with_use}
+use Rattle.lagsystem.specs.Settings.{in_use_after}
+use Rattle.lagtypes.specs.declared.party.Choice.TheVariants.{Selected, Standby}
+use Rattle.lagsystem.specs.Occupants.{occupied}
+use Rattle.lagsystem.proofs.Common.{Bool, Err, List, None, Ok, Option, Result, Some, [], ap, arith, cond, false, if◌then◌else◌, inl, inr, length, occupied}
 use Rattle.lagsystem.proofs.Common.{nat_lt, refl, slice_get, slice_set, subst, suc, sym, true, ℕ, ◌&&◌, ◌||◌, ◌∙◌, ◌∷◌, ◌≡◌, ◌≤◌, ◌⊎◌, false≢true}
 use Rattle.lagsystem.proofs.Common.{or_parts, nat_tests, list_any, AggId, Key, Choice, Unselected, is_unselected, Members, LawfulMoves, PortMove}
 use Rattle.lagsystem.proofs.Common.{ModelCall, members_call, moves_joined, Machines, partner_synchronized, receive_rows, has_chosen, Table}
@@ -15,10 +21,10 @@ use Rattle.lagsystem.proofs.Choose.{Fits}
 use Rattle.lagsystem.proofs.FirstView.{configured_setup}
 use Rattle.lagsystem.proofs.HeldPorts.{IsApart, apart_kept, settling_on}
 use Rattle.lagsystem.proofs.Keeps.{numbers_set, settling_keeps, settling_parts, zip_numbers}
-use Rattle.lagsystem.proofs.Limiting.{count, counted, set_fewer, within_fewer}
+use Rattle.lagsystem.proofs.Limiting.{count, counted, set_fewer, within_fewer, Fewer}
 use Rattle.lagsystem.proofs.Lists.{AllZip-weaker}
 use Rattle.lagsystem.proofs.OccupantSteps.{settling_placed}
-use Rattle.lagsystem.proofs.Occupying.{EachStays, LeavesOrStays, stays, set_stays, stay_agrees, zip_stay}
+use Rattle.lagsystem.proofs.Occupying.{EachStays, LeavesOrStays, stays, set_stays, stay_agrees, zip_stay, OccupiesAsBefore, occupants_kept, zip_occupies}
 use Rattle.lagsystem.proofs.OfPort.{PortMoves, SlotMoves, all_slots_move, port_stays, slot_moves}
 use Rattle.lagsystem.proofs.OnPorts.{leaves_carried}
 use Rattle.lagsystem.proofs.Quieting.{settling_none, settling_quiet}
@@ -29,11 +35,11 @@ use Rattle.lagsystem.proofs.Steps.{settling_moves}
 
 -- what a setting leaves before the settling
 pub record Readies (old mid : SystemState) : Type 0 where
-  pub frame : mid ≡ record old { max_links = mid.max_links; system_ports = mid.system_ports }
+  pub frame : mid ≡ record old { max_links = mid.max_links; in_use = mid.in_use; system_ports = mid.system_ports }
   pub same : port_numbers mid.system_ports ≡ port_numbers old.system_ports
   pub accepted : refusal old.keys old.ports mid.max_links old.conversations ≡ None
   pub awake : ReceivesAtRest mid.system_ports
-  pub stay : EachStays old.system_ports mid.system_ports
+  pub occupants : OccupantsAgree old.keys mid.system_ports
   pub limited : WithinLimit mid.max_links (views mid.system_ports)
   pub ages : ages_in mid.system_ports ≡ ages_in old.system_ports
   pub apart : HeldUnselected mid.system_ports
@@ -41,14 +47,14 @@ pub record Readies (old mid : SystemState) : Type 0 where
 
 -- what holds then
 pub record Settled (old mid new : SystemState) : Type 0 where
-  pub frame : new ≡ record old { max_links = mid.max_links; system_ports = new.system_ports; table = new.table }
+  pub frame : new ≡ record old { max_links = mid.max_links; in_use = mid.in_use; system_ports = new.system_ports; table = new.table }
   pub sound : IsSound new
   pub moves : LawfulMoves (model_setup old) ModelCall.Tick (model_view old) [] (model_view new)
   pub ages : (n : ℕ) → ages_at n new ≡ ages_at n old
 
-framed : (old mid new : SystemState) → mid ≡ record old { max_links = mid.max_links; system_ports = mid.system_ports }
+framed : (old mid new : SystemState) → mid ≡ record old { max_links = mid.max_links; in_use = mid.in_use; system_ports = mid.system_ports }
     → new ≡ with_table (with_system_ports mid new.system_ports) new.table
-    → new ≡ record old { max_links = mid.max_links; system_ports = new.system_ports; table = new.table }
+    → new ≡ record old { max_links = mid.max_links; in_use = mid.in_use; system_ports = new.system_ports; table = new.table }
 framed old mid new e f = f ∙ ap (λ (s : SystemState). with_table (with_system_ports s new.system_ports) new.table) e
 
 -- the invariant, from the parts that a settling gives
@@ -59,8 +65,7 @@ settles_sound old mid new s r h = let k = settling_keeps mid new h in
     let table : mid.table ≡ old.table = ap (λ (x : SystemState). x.table) r.frame in
     let keys : mid.keys ≡ old.keys = ap (λ (x : SystemState). x.keys) r.frame in
     let rise : Rises 0 (port_numbers mid.system_ports) = subst (λ ns. Rises 0 ns) (sym r.same) (ports_rise old s.ports) in
-    let agree : OccupantsAgree mid.keys mid.system_ports = subst (λ ks. OccupantsAgree ks mid.system_ports) (sym keys)
-    (stay_agrees old.keys old.system_ports mid.system_ports r.stay s.occupants) in
+    let agree : OccupantsAgree mid.keys mid.system_ports = subst (λ ks. OccupantsAgree ks mid.system_ports) (sym keys) r.occupants in
     let own : LawfulMoves u ModelCall.Tick (model_view old) [] (model_view mid) =
     subst (λ (t : Table). LawfulMoves u ModelCall.Tick (model_view old) [] (model_view_at (model_distributor t) mid.system_ports)) (sym table)
     r.moves in
@@ -114,7 +119,7 @@ set_readies old i x y s e m = let l = old.system_ports in record {
   accepted = s.ports.accepted;
   awake = all-set (λ z. none_enabled receive_rows z.port ≡ true) l i y s.rested.0
       (m.awake (all-get (λ z. none_enabled receive_rows z.port ≡ true) l i x e s.rested.0));
-  stay = set_stays l i x y e m.leaves;
+  occupants = stay_agrees old.keys l (slice_set l i y) (set_stays l i x y e m.leaves) s.occupants;
   limited = within_fewer old.max_links l (slice_set l i y) (set_fewer l i x y e m.leaves) s.limited;
   ages = ages_set l i x y e m.ages;
   apart = all-set IsApart l i y s.held (m.apart (all-get IsApart l i x e s.held));
@@ -272,13 +277,14 @@ limit_readies old mid max_links s free h = let l = old.system_ports in
     let taken = limit_taken max_links l free in
     let limit : mid.max_links ≡ max_links = ap (λ (x : SystemState). x.max_links) h.1 in
     record {
-      frame = h.1 ∙ ap (λ most. record old { max_links = most; system_ports = m }) (sym limit);
+      frame = h.1 ∙ ap (λ most. record old { max_links = most; system_ports = m }) (sym limit)
+          ∙ ap (λ u. record old { max_links = mid.max_links; in_use = u; system_ports = m }) (sym (ap (λ (x : SystemState). x.in_use) h.1));
       same = zip_numbers R l m h.0;
       accepted = ap (λ most. refusal old.keys old.ports most old.conversations) limit
           ∙ still_accepted old.keys old.ports old.max_links max_links old.conversations s.ports.accepted taken.0;
       awake = zip_kept (PortChangesBy R) (λ z. none_enabled receive_rows z.port ≡ true)
           (λ x y c a. ap (none_enabled receive_rows) c.1 ∙ a) l m h.0 s.rested.0;
-      stay = zip_stay R (relinks_leaves max_links) l m h.0;
+      occupants = stay_agrees old.keys l m (zip_stay R (relinks_leaves max_links) l m h.0) s.occupants;
       limited = subst (λ most. WithinLimit most (views m)) (sym limit) (within_limit max_links l m taken.1 h.0);
       ages = zip_ages R (λ p q c. ap ages_of c) l m h.0;
       apart = zip_kept (PortChangesBy R) IsApart (λ x y c a. apart_kept.stay x y c.0 (relinks_leaves max_links x.port y.port c.1) a) l m h.0
@@ -286,6 +292,80 @@ limit_readies old mid max_links s free h = let l = old.system_ports in
       moves = all_slots_move (model_setup old) ModelCall.Tick (model_distributor old.table) l m (are_numbered 0 l (ports_rise old s.ports))
           (AllZip-weaker (PortChangesBy R) (SlotMoves (model_setup old) ModelCall.Tick)
           (λ x y c. (ap number_of_port c.0, relinks_moves old x.number max_links x.port y.port c.1)) l m h.0);
+    }
+
+-- aggregators in use
+
+-- with this aggregator in use, or out of use
+abbrev pub Reuses : AggId → Bool → Machines → Machines → Type 0
+Reuses agg now p q = q ≡ record p { choice = choice_with_use agg now p.choice }
+
+same_occupied : (agg : AggId) (now : Bool) (c : Choice) → occupied (choice_with_use agg now c) ≡ occupied c
+same_occupied agg now c = grind (arith, nat_tests)
+
+reuses_occupies : (agg : AggId) (now : Bool) (p q : Machines) → Reuses agg now p q → OccupiesAsBefore p q
+reuses_occupies agg now p q h = subst (OccupiesAsBefore p) (sym h) (inr (same_occupied agg now p.choice, refl, refl))
+
+fewer_chosen : (a agg : AggId) (now : Bool) (c : Choice) (m n : ℕ) → m ≤ n
+    → cond (has_chosen a (choice_with_use agg now c)) (suc m) m ≤ cond (has_chosen a c) (suc n) n
+fewer_chosen a agg now c m n l = grind (arith, nat_tests)
+
+reuse_fewer : (agg : AggId) (now : Bool) (xs ys : List SystemPort) → PortsChangeBy (Reuses agg now) xs ys → Fewer xs ys
+reuse_fewer agg now [] [] h a = omega arith
+reuse_fewer agg now [] (y ∷ ys) h a = absurd h
+reuse_fewer agg now (x ∷ xs) [] h a = absurd h
+reuse_fewer agg now (x ∷ xs) (y ∷ ys) h a =
+    subst (λ (p : Machines). cond (has_chosen a p.choice) (suc (count a ys)) (count a ys) ≤ cond (has_chosen a x.port.choice) (suc (count a xs)) (count a xs))
+    (sym h.0.1) (fewer_chosen a agg now x.port.choice (count a ys) (count a xs) (reuse_fewer agg now xs ys h.1 a))
+
+same_apart : (agg : AggId) (now : Bool) (c : Choice) → is_unselected (choice_with_use agg now c) ≡ is_unselected c
+same_apart agg now c = grind (arith, nat_tests)
+
+reuse_apart : (agg : AggId) (now : Bool) (x y : SystemPort) → PortChangesBy (Reuses agg now) x y → IsApart x → IsApart y
+reuse_apart agg now x y h a = subst (λ (z : SystemPort). IsApart z) (sym (h.0 ∙ ap (λ (p : Machines). record x { port = p }) h.1))
+    (ap (λ b. if x.held then b else true) (same_apart agg now x.port.choice) ∙ a)
+
+use_moves : (old : SystemState) (n : ℕ) (p : Machines) (agg : AggId) (now : Bool) (c : Choice) → p.choice ≡ c
+    → PortMoves (model_setup old) ModelCall.Tick n (model_port (record p { choice = c })) [] (model_port (record p { choice = choice_with_use agg now c }))
+use_moves old n p agg now Unselected e = port_stays (model_setup old) ModelCall.Tick n (model_port (record p { choice = Unselected }))
+    (model_port (record p { choice = Unselected })) refl
+use_moves old n p agg now (Standby given) e = port_stays (model_setup old) ModelCall.Tick n (model_port (record p { choice = Standby given }))
+    (model_port (record p { choice = Standby given })) refl
+use_moves old n p agg now (Selected given) e = by_test (not now && (given.0 == agg.0))
+  where
+    by_test : (b : Bool) → PortMoves (model_setup old) ModelCall.Tick n (model_port (record p { choice = Selected given })) []
+        (model_port (record p { choice = if b then Standby given else Selected given }))
+    by_test true = held_moves old n true (record p { choice = Selected given })
+    by_test false = port_stays (model_setup old) ModelCall.Tick n (model_port (record p { choice = Selected given }))
+        (model_port (record p { choice = Selected given })) refl
+
+reuses_moves : (old : SystemState) (n : ℕ) (agg : AggId) (now : Bool) (p q : Machines) → Reuses agg now p q
+    → PortMoves (model_setup old) ModelCall.Tick n (model_port p) [] (model_port q)
+reuses_moves old n agg now p q h =
+    subst (λ (m : Machines). PortMoves (model_setup old) ModelCall.Tick n (model_port p) [] (model_port m)) (sym h)
+    (use_moves old n p agg now p.choice refl)
+
+use_readies : (old mid : SystemState) (agg : AggId) (now : Bool) → IsSound old → PutsInUse agg now old mid → Readies old mid
+use_readies old mid agg now s h = let l = old.system_ports in
+    let m = mid.system_ports in
+    let R : Machines → Machines → Type 0 = Reuses agg now in
+    let limit : mid.max_links ≡ old.max_links = ap (λ (x : SystemState). x.max_links) h.1 in
+    let used : mid.in_use ≡ with_use old.keys agg now old.in_use = ap (λ (x : SystemState). x.in_use) h.1 in
+    record {
+      frame = h.1 ∙ ap (λ u. record old { in_use = u; system_ports = m }) (sym used)
+          ∙ ap (λ most. record old { max_links = most; in_use = mid.in_use; system_ports = m }) (sym limit);
+      same = zip_numbers R l m h.0;
+      accepted = ap (λ most. refusal old.keys old.ports most old.conversations) limit ∙ s.ports.accepted;
+      awake = zip_kept (PortChangesBy R) (λ z. none_enabled receive_rows z.port ≡ true)
+          (λ x y c a. ap (none_enabled receive_rows) c.1 ∙ a) l m h.0 s.rested.0;
+      occupants = occupants_kept old.keys l m (zip_occupies R (reuses_occupies agg now) l m h.0) s.occupants;
+      limited = subst (λ most. WithinLimit most (views m)) (sym limit)
+          (within_fewer old.max_links l m (reuse_fewer agg now l m h.0) s.limited);
+      ages = zip_ages R (λ p q c. ap ages_of c) l m h.0;
+      apart = zip_kept (PortChangesBy R) IsApart (reuse_apart agg now) l m h.0 s.held;
+      moves = all_slots_move (model_setup old) ModelCall.Tick (model_distributor old.table) l m (are_numbered 0 l (ports_rise old s.ports))
+          (AllZip-weaker (PortChangesBy R) (SlotMoves (model_setup old) ModelCall.Tick)
+          (λ x y c. (ap number_of_port c.0, reuses_moves old x.number agg now x.port y.port c.1)) l m h.0);
     }
 
 -- the settings
@@ -297,13 +377,15 @@ record KeepsSetting (old : SystemState) (setting : Setting) (answer : Result Uni
 
 same_setting : (old : SystemState) (setting : Setting) (answer : Result Unit SystemFault) (new : SystemState)
     → max_delay_after setting old.max_delay ≡ old.max_delay → max_links_after setting answer old.max_links ≡ old.max_links
+    → in_use_after old.keys setting answer old.in_use ≡ old.in_use
     → SettingStep old setting answer new → IsSound old → new ≡ old → KeepsSetting old setting answer new
-same_setting old setting answer new d l step s e = grind (arith, nat_tests, model_view, ages_at, agrees, model_setup)
+same_setting old setting answer new d l u step s e = grind (arith, nat_tests, model_view, ages_at, agrees, model_setup)
 
 settled_setting : (old mid : SystemState) (setting : Setting) (answer : Result Unit SystemFault) (new : SystemState)
     → max_delay_after setting old.max_delay ≡ old.max_delay → max_links_after setting answer old.max_links ≡ mid.max_links
+    → in_use_after old.keys setting answer old.in_use ≡ mid.in_use
     → SettingStep old setting answer new → IsSound old → Readies old mid → Settling mid new → KeepsSetting old setting answer new
-settled_setting old mid setting answer new d l step s r h = let k = settles_sound old mid new s r h in record {
+settled_setting old mid setting answer new d l u step s r h = let k = settles_sound old mid new s r h in record {
   sound = k.sound;
   promise = record {
     step = step;
@@ -315,21 +397,23 @@ settled_setting old mid setting answer new d l step s r h = let k = settles_soun
     conversations = ap (λ (x : SystemState). x.conversations) k.frame;
     max_delay = ap (λ (x : SystemState). x.max_delay) k.frame ∙ sym d;
     max_links = ap (λ (x : SystemState). x.max_links) k.frame ∙ sym l;
+    in_use = ap (λ (x : SystemState). x.in_use) k.frame ∙ sym u;
   };
 }
 
 -- a port that changes, or is so already
 port_set : (o : Option ℕ) (already : SystemPort → Bool) (change : SystemPort → SystemPort) (old : SystemState) (setting : Setting)
     (done : Unit) (new : SystemState) → max_delay_after setting old.max_delay ≡ old.max_delay
-    → max_links_after setting (Ok done) old.max_links ≡ old.max_links → ((x : SystemPort) → Mild old x (change x))
+    → max_links_after setting (Ok done) old.max_links ≡ old.max_links → in_use_after old.keys setting (Ok done) old.in_use ≡ old.in_use
+    → ((x : SystemPort) → Mild old x (change x))
     → SettingStep old setting (Ok done) new → IsSound old → SetsPort already change o old new → KeepsSetting old setting (Ok done) new
-port_set None already change old setting done new d l mild step s h = absurd h
-port_set (Some i) already change old setting done new d l mild step s h = elim h [
-  | inl same ↦ same_setting old setting (Ok done) new d l step s same.1
+port_set None already change old setting done new d l u mild step s h = absurd h
+port_set (Some i) already change old setting done new d l u mild step s h = elim h [
+  | inl same ↦ same_setting old setting (Ok done) new d l u step s same.1
   | inr settled ↦
       let r = place_readies old settled.0 i already change mild s settled.1 in
       settled_setting old settled.0 setting (Ok done) new d
-      (l ∙ sym (ap (λ (x : SystemState). x.max_links) settled.1.1)) step s r settled.2
+      (l ∙ sym (ap (λ (x : SystemState). x.max_links) settled.1.1)) (u ∙ sym (ap (λ (x : SystemState). x.in_use) settled.1.1)) step s r settled.2
 ]
 
 delay_sound : (old : SystemState) (max_delay : ℕ) → IsSound old → IsSound (record old { max_delay = max_delay })
@@ -338,15 +422,15 @@ delay_sound old max_delay s = grind (arith, nat_tests)
 setting_keeps : (old : SystemState) (setting : Setting) (answer : Result Unit SystemFault) (new : SystemState)
     → SettingStep old setting answer new → IsSound old → KeepsSetting old setting answer new
 setting_keeps old (Setting.Hold_port n held) (Ok done) new h s =
-    port_set (port_index n old.system_ports) (is_held_so held) (with_held held) old (Setting.Hold_port n held) done new refl refl
+    port_set (port_index n old.system_ports) (is_held_so held) (with_held held) old (Setting.Hold_port n held) done new refl refl refl
     (holding_mild old held) h s h
 setting_keeps old (Setting.Hold_port n held) (Err fault) new h s =
-    same_setting old (Setting.Hold_port n held) (Err fault) new refl refl h s h.same
+    same_setting old (Setting.Hold_port n held) (Err fault) new refl refl refl h s h.same
 setting_keeps old (Setting.Set_mode n active short) (Ok done) new h s =
     port_set (port_index n old.system_ports) (is_in_mode active short) (in_mode active short) old (Setting.Set_mode n active short) done new refl
-    refl (mode_mild old active short) h s h
+    refl refl (mode_mild old active short) h s h
 setting_keeps old (Setting.Set_mode n active short) (Err fault) new h s =
-    same_setting old (Setting.Set_mode n active short) (Err fault) new refl refl h s h.same
+    same_setting old (Setting.Set_mode n active short) (Err fault) new refl refl refl h s h.same
 setting_keeps old (Setting.Set_max_delay max_delay) (Ok done) new h s =
     let sound : IsSound new = subst IsSound (sym h) (delay_sound old max_delay s) in record {
       sound = sound;
@@ -360,14 +444,20 @@ setting_keeps old (Setting.Set_max_delay max_delay) (Ok done) new h s =
         conversations = ap (λ (x : SystemState). x.conversations) h;
         max_delay = ap (λ (x : SystemState). x.max_delay) h;
         max_links = ap (λ (x : SystemState). x.max_links) h;
+        in_use = ap (λ (x : SystemState). x.in_use) h;
       };
     }
 setting_keeps old (Setting.Set_max_delay max_delay) (Err fault) new h s = absurd h
 setting_keeps old (Setting.Set_max_links max_links) (Ok done) new h s =
     settled_setting old h.1.0 (Setting.Set_max_links max_links) (Ok done) new refl
-    (sym (ap (λ (x : SystemState). x.max_links) h.1.1.1)) h s (limit_readies old h.1.0 max_links s h.0 h.1.1) h.1.2
+    (sym (ap (λ (x : SystemState). x.max_links) h.1.1.1)) (sym (ap (λ (x : SystemState). x.in_use) h.1.1.1)) h s (limit_readies old h.1.0 max_links s h.0 h.1.1) h.1.2
 setting_keeps old (Setting.Set_max_links max_links) (Err fault) new h s =
-    same_setting old (Setting.Set_max_links max_links) (Err fault) new refl refl h s h.1
+    same_setting old (Setting.Set_max_links max_links) (Err fault) new refl refl refl h s h.1
+setting_keeps old (Setting.Set_in_use agg now) (Ok done) new h s =
+    settled_setting old h.1.0 (Setting.Set_in_use agg now) (Ok done) new refl (sym (ap (λ (x : SystemState). x.max_links) h.1.1.1))
+    (sym (ap (λ (x : SystemState). x.in_use) h.1.1.1)) h s (use_readies old h.1.0 agg now s h.1.1) h.1.2
+setting_keeps old (Setting.Set_in_use agg now) (Err fault) new h s =
+    same_setting old (Setting.Set_in_use agg now) (Err fault) new refl refl refl h s h.2
 
 -- every setting keeps the invariant
 pub setting_sound : (old : SystemState) (setting : Setting) (answer : Result Unit SystemFault) (new : SystemState)

@@ -1,4 +1,6 @@
 -- The calls that settle: their own effect, from what its parts do, and the ports that distributed before it.
+use Rattle.selection.specs.Limits.{with_use}
+use Rattle.lagsystem.specs.Uses.{PutsInUse, choice_with_use}
 use Rattle.lagsystem.proofs.Common.{Bool, List, Option, Some, ap, arith, inr, subst, sym, ℕ, ◌∙◌, ◌≡◌, nat_tests, AggId, Machines, receive_rows}
 use Rattle.lagsystem.proofs.Common.{RunsToRest, count_down, AggregatorsValue, Assignment, On, ChangesAssignments, after_tick, Table, assignment_of}
 use Rattle.lagsystem.proofs.Common.{SystemPort, FreesIfDown, OnlyPortChangesBy, PortAtChangesBy, SetsLink, SetsPortEnabled, Ticks, choice_with_link}
@@ -78,9 +80,20 @@ is_so_already already change o i old new olds e v a same = grind (arith, nat_tes
 pub limits_made : (max_links : Option ℕ) (old : SystemState) (aggs : AggregatorsValue) (olds ws news : List SystemPort)
     → aggs ≡ record (aggregators_value old) { max_links = max_links } → olds ≡ old.system_ports → news ≡ ws
     → PortsChangeBy (λ p q. q ≡ record p { choice = choice_with_link max_links p.enabled p.choice }) olds ws
-    → LimitsLinks max_links old (record old { keys = aggs.keys; max_links = aggs.max_links; system_ports = news })
+    → LimitsLinks max_links old (record old { keys = aggs.keys; max_links = aggs.max_links; in_use = aggs.in_use; system_ports = news })
 limits_made max_links old aggs olds ws news a e w h = grind (arith, nat_tests)
 
 pub limits_carried : (max_links : Option ℕ) (old mid : SystemState) (were : List (Option AggId)) → IsSound old
     → LimitsLinks max_links old mid → were ≡ aggregators_in_use old.system_ports → WereInUse were mid
 limits_carried max_links old mid were s h e = grind (arith, nat_tests, zip_numbers, choice_with_link, assignment_of)
+
+-- an aggregator that is put in use, or out of use
+pub uses_made : (agg : AggId) (now : Bool) (old : SystemState) (aggs : AggregatorsValue) (olds ws news : List SystemPort)
+    → aggs ≡ record (aggregators_value old) { in_use = with_use old.keys agg now old.in_use } → olds ≡ old.system_ports → news ≡ ws
+    → PortsChangeBy (λ p q. q ≡ record p { choice = choice_with_use agg now p.choice }) olds ws
+    → PutsInUse agg now old (record old { keys = aggs.keys; max_links = aggs.max_links; in_use = aggs.in_use; system_ports = news })
+uses_made agg now old aggs olds ws news a e w h = grind (arith, nat_tests)
+
+pub uses_carried : (agg : AggId) (now : Bool) (old mid : SystemState) (were : List (Option AggId)) → IsSound old
+    → PutsInUse agg now old mid → were ≡ aggregators_in_use old.system_ports → WereInUse were mid
+uses_carried agg now old mid were s h e = grind (arith, nat_tests, zip_numbers, choice_with_use, assignment_of)

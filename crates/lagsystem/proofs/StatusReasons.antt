@@ -1,4 +1,5 @@
 -- Why the Selection Logic finds no aggregator or no room for a port, and for what a SELECTED port waits.
+use Rattle.selection.specs.Limits.{is_in_use}
 use Rattle.lagsystem.proofs.Common.{Bool, List, None, Option, Some, [], ap, arith, cond, false, filter, find, if◌then◌else◌, inl, inr, length, nat_le}
 use Rattle.lagsystem.proofs.Common.{nat_lt, not, option_map, refl, slice_get, subst, suc, sym, true, zero, ℕ, ◌&&◌, ◌+◌, ◌<◌, ◌==◌, ◌||◌, ◌∙◌, ◌∷◌}
 use Rattle.lagsystem.proofs.Common.{◌≡◌, ◌≤◌, ◌⊎◌, not-false, true≢false, nat_tests, none-some, same_Some, enumerate_from, list_all, list_any, AggId}
@@ -109,9 +110,12 @@ stood_by agg [] i x e h = absurd (none-some x e)
 stood_by agg (y ∷ ys) zero x e h = ap (λ (z : SystemPort). stands_by agg z.port.choice) (sym (same_Some y x e)) ∙ h.0
 stood_by agg (y ∷ ys) (suc i) x e h = stood_by agg ys i x e h.1
 
-full_of : (max_links : Option ℕ) (known : Bool) (n : ℕ) → known ≡ true → (known && is_below max_links n) ≡ false
+full_of : (max_links : Option ℕ) (n : ℕ) → is_below max_links n ≡ false
     → ((most : ℕ) → max_links ≡ Some most → n ≤ most) → (most : ℕ) × (max_links ≡ Some most) × (n ≡ most)
-full_of max_links known n k h w = grind (arith, nat_tests)
+full_of max_links n h w = grind (arith, nat_tests)
+
+no_room_of : (known used below : Bool) → known ≡ true → ((known && used) && below) ≡ false → (used ≡ false) ⊎ (below ≡ false)
+no_room_of known used below k h = grind (arith, nat_tests)
 
 at_most : (max_links : Option ℕ) (agg : AggId) (ports : List SystemPort) → WithinLimit max_links (views ports) → (most : ℕ)
     → max_links ≡ Some most → length (ports_that_chose agg (views ports)) ≤ most
@@ -128,7 +132,15 @@ finds_no_room agg s i x l stands = let p = x.port in
       | inl r ↦ r
       | inr n ↦ absurd (true≢false (sym (ap (stands_by agg) stands ∙ itself agg.0) ∙ stood_by agg s.system_ports i x at n))
     ] in
-    grind (arith, nat_tests, full_of, is_aggregator, ports_that_chose, views, at_most)
+    let n = length (ports_that_chose agg (views s.system_ports)) in
+    record {
+      hears = l.hears;
+      chosen = stands;
+      room = elim (no_room_of (is_aggregator s.keys agg) (is_in_use s.in_use agg) (is_below s.max_links n) known room) [
+        | inl unused ↦ inl unused
+        | inr full ↦ inr (full_of s.max_links n full (at_most s.max_links agg s.system_ports h.limited))
+      ];
+    }
 
 -- a SELECTED port waits
 

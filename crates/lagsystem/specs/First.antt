@@ -1,6 +1,6 @@
 -- The first state of a system, and why a configuration is refused.
 use Rattle.std.specs.Prelude.{◌≡◌, ℕ, Bool, true, false, ◌+◌, ◌&&◌, List, [], ◌∷◌, length, map, nat_le, nat_lt, if◌then◌else◌, Option}
-use Rattle.std.specs.Prelude.{Some, None, option_map}
+use Rattle.std.specs.Prelude.{Some, None, option_map, replicate}
 use Rattle.std.specs.List.{AllZip}
 use Rattle.lagtypes.specs.declared.identifiers.Key.{Key}
 use Rattle.lagtypes.specs.declared.identifiers.SystemId.{SystemId}
@@ -65,7 +65,7 @@ config_value c =
       ports = c.ports.items;
     }
 
--- the state has this configuration
+-- the state has this configuration, and each aggregator is in use
 pub record IsConfigured (config : Config) (s : SystemState) : Type 0 where
   pub system : s.system ≡ config.system
   pub max_delay : s.max_delay ≡ config.max_delay
@@ -73,6 +73,7 @@ pub record IsConfigured (config : Config) (s : SystemState) : Type 0 where
   pub conversations : s.conversations ≡ config.conversations
   pub keys : s.keys ≡ config.aggregators.items
   pub max_links : s.max_links ≡ config.max_links
+  pub in_use : s.in_use ≡ replicate (length config.aggregators.items) true
   pub ports : s.ports ≡ config.ports.items
 
 -- the number of a configured port

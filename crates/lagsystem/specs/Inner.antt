@@ -11,6 +11,7 @@ inner_state c = record {
   conversations = c.distributor.table.conversations;
   keys = c.aggregators.keys;
   max_links = c.aggregators.max_links;
+  in_use = c.aggregators.in_use;
   ports = c.ports.items;
   system_ports = c.system_ports.items;
   table = c.distributor.table;

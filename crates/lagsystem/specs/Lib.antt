@@ -34,4 +34,5 @@ pub mod Waiting
 pub mod Quiet
 pub mod Soonest
 pub mod HostCalls
+pub mod Uses
 pub mod Settings

@@ -1,26 +1,31 @@
--- Settings of a running system: which ports the host holds, LACP_Activity and LACP_Timeout of a port, CollectorMaxDelay, and
--- the limit of links of an aggregator (6.4.2.3, 6.4.7, 6.4.8; profile).
+-- Settings of a running system: which ports the host holds, LACP_Activity and LACP_Timeout of a port, CollectorMaxDelay,
+-- the limit of links of an aggregator, and which aggregators are in use (6.4.2.3, 6.4.7, 6.4.8; profile).
 use Rattle.std.specs.Prelude.{◌≡◌, ℕ, Bool, true, false, ◌&&◌, List, [], filter, length, if◌then◌else◌, ◌⊎◌, nat_lt, Option, Some, None, slice_get}
-use Rattle.std.specs.Prelude.{slice_set, option_map, Result, Ok, Err}
+use Rattle.std.specs.Prelude.{slice_set, option_map, Result, Ok, Err, IsTrue}
+use Rattle.std.specs.Bool.{IsFalse}
 use Rattle.std.specs.List.{list_any}
 use Rattle.lagtypes.specs.Same.{same_bit}
 use Rattle.lagtypes.specs.declared.identifiers.AggId.{AggId}
+use Rattle.lagtypes.specs.declared.identifiers.Key.{Key}
 use Rattle.lagtypes.specs.declared.party.Choice.{Choice}
 use Rattle.lagtypes.specs.declared.party.Choice.TheVariants.{Unselected, Selected, Standby}
 use Rattle.lagmodel.specs.Move.{LawfulMoves}
 use Rattle.lagmodel.specs.View.{ModelCall}
 use Rattle.portmachines.specs.Calls.{with_mode}
+use Rattle.selection.specs.Limits.{with_use}
 use Rattle.selection.specs.Views.{has_chosen}
 use Rattle.lagsystem.specs.declared.fault.BadConfig.TheVariants.{MaxLinks}
 use Rattle.lagsystem.specs.declared.fault.SystemFault.{SystemFault}
-use Rattle.lagsystem.specs.declared.fault.SystemFault.TheVariants.{BadConfig, OverLimit}
+use Rattle.lagsystem.specs.declared.fault.SystemFault.TheVariants.{BadConfig, NoAggregator, OverLimit}
 use Rattle.lagsystem.specs.declared.system_ports.SystemPort.{SystemPort}
 use Rattle.lagsystem.specs.Calls.{RefusesNoPort, ThenSettles, Unchanged, choice_with_link}
 use Rattle.lagsystem.specs.First.{is_limit}
 use Rattle.lagsystem.specs.ModelView.{model_setup, model_view}
+use Rattle.lagsystem.specs.Offers.{has_aggregator}
 use Rattle.lagsystem.specs.Settling.{PortsChangeBy}
 use Rattle.lagsystem.specs.Sound.{PortsAgree}
 use Rattle.lagsystem.specs.State.{SystemState, machines_of, port_index, system_port_at, with_system_ports}
+use Rattle.lagsystem.specs.Uses.{PutsInUse}
 
 -- the settings, with their arguments
 pub data Setting : Type 0 where
@@ -28,6 +33,7 @@ pub data Setting : Type 0 where
   Set_mode : (port : ℕ) (active short : Bool) → Setting
   Set_max_delay : (max_delay : ℕ) → Setting
   Set_max_links : (max_links : Option ℕ) → Setting
+  Set_in_use : (agg : AggId) (now : Bool) → Setting
 
 -- the port, held or let go; one that is held is UNSELECTED
 abbrev pub with_held : Bool → SystemPort → SystemPort
@@ -105,6 +111,8 @@ SettingStep old (Set_max_links max_links) (Ok done) new =
     (limit_refusal max_links old.system_ports ≡ None) × ThenSettles (LimitsLinks max_links) old new
 SettingStep old (Set_max_links max_links) (Err fault) new =
     (limit_refusal max_links old.system_ports ≡ Some fault) × Unchanged old new
+SettingStep old (Set_in_use agg now) (Ok done) new = IsTrue (has_aggregator old agg) × ThenSettles (PutsInUse agg now) old new
+SettingStep old (Set_in_use agg now) (Err fault) new = IsFalse (has_aggregator old agg) × (fault ≡ NoAggregator) × Unchanged old new
 
 -- whether the host holds the port with this number; None if there is no such port
 abbrev pub held_at : ℕ → SystemState → Option Bool
@@ -120,13 +128,19 @@ abbrev pub max_links_after : Setting → Result Unit SystemFault → Option ℕ 
 max_links_after (Set_max_links max_links) (Ok done) before = max_links
 max_links_after setting answer before = before
 
+-- which aggregators are in use after the setting, if these were before, of a system with these keys
+abbrev pub in_use_after : List Key → Setting → Result Unit SystemFault → List Bool → List Bool
+in_use_after keys (Set_in_use agg now) (Ok done) before = with_use keys agg now before
+in_use_after keys setting answer before = before
+
 -- the ages that a port keeps of the LACPDUs that it sent (6.4.16)
 abbrev pub ages_at : ℕ → SystemState → Option (List ℕ)
 ages_at n s = option_map (λ p. p.ages) (machines_of n s)
 
 -- What every setting promises. The model allows it, as what may happen in a tick, without a visible act: it sends nothing, and
 -- frees no conversation. Each port keeps its transmit limit, since its ages stay; the ports agree after it (`PortsAgree`); and
--- what a restart goes back to stays, with the count of conversations. The limit of links and CollectorMaxDelay are those set.
+-- what a restart goes back to stays, with the count of conversations. The limit of links, CollectorMaxDelay and which aggregators are in use
+-- are as set.
 pub record SettingPromise (old : SystemState) (setting : Setting) (answer : Result Unit SystemFault) (new : SystemState) : Type 0 where
   pub step : SettingStep old setting answer new
   pub moves : LawfulMoves (model_setup old) ModelCall.Tick (model_view old) [] (model_view new)
@@ -137,3 +151,4 @@ pub record SettingPromise (old : SystemState) (setting : Setting) (answer : Resu
   pub conversations : new.conversations ≡ old.conversations
   pub max_delay : new.max_delay ≡ max_delay_after setting old.max_delay
   pub max_links : new.max_links ≡ max_links_after setting answer old.max_links
+  pub in_use : new.in_use ≡ in_use_after old.keys setting answer old.in_use

@@ -1,5 +1,5 @@
 -- One system as contracts see it.
-use Rattle.std.specs.Prelude.{ℕ, ◌==◌, List, map, Option, Some, None, slice_get, position, option_map}
+use Rattle.std.specs.Prelude.{ℕ, ◌==◌, Bool, List, map, Option, Some, None, slice_get, position, option_map}
 use Rattle.lagtypes.specs.declared.identifiers.Key.{Key}
 use Rattle.lagtypes.specs.declared.identifiers.SystemId.{SystemId}
 use Rattle.portmachines.specs.Machines.{Machines}
@@ -9,8 +9,8 @@ use Rattle.lagsystem.specs.declared.config.PortConfig.{PortConfig}
 use Rattle.lagsystem.specs.declared.system_ports.SystemPort.{SystemPort}
 
 -- the configuration: system identifier, CollectorMaxDelay, first marker identifier, how many conversations each
--- aggregator has, keys of the aggregators, how many links each may have, and the ports as they were configured; then the
--- ports as they are now, in the same order; and the conversations
+-- aggregator has, keys of the aggregators, how many links each may have, whether each is in use, and the ports as they were configured; then
+-- the ports as they are now, in the same order; and the conversations
 pub record SystemState : Type 0 where
   pub system : SystemId
   pub max_delay : ℕ
@@ -18,13 +18,14 @@ pub record SystemState : Type 0 where
   pub conversations : ℕ
   pub keys : List Key
   pub max_links : Option ℕ
+  pub in_use : List Bool
   pub ports : List PortConfig
   pub system_ports : List SystemPort
   pub table : Table
 
 -- the aggregators, as the Selection Logic has them
 abbrev pub aggregators_value : SystemState → AggregatorsValue
-aggregators_value s = record { keys = s.keys; max_links = s.max_links }
+aggregators_value s = record { keys = s.keys; max_links = s.max_links; in_use = s.in_use }
 
 -- what contracts see of a system: its state, and the algorithm that picks the ports of conversations
 pub record SystemValue (F : Type 0) : Type 0 where

@@ -1,5 +1,5 @@
 -- What each status of a port says of the port and its system (6.4.7, 6.4.8, 6.4.10, 6.4.12, 6.4.14, 6.4.15; profile).
-use Rattle.std.specs.Prelude.{◌≡◌, ◌<◌, ℕ, true, false, length, Some, None, slice_get}
+use Rattle.std.specs.Prelude.{◌≡◌, ◌<◌, ◌⊎◌, ℕ, true, false, length, Some, None, slice_get}
 use Rattle.lagtypes.specs.declared.identifiers.AggId.{AggId}
 use Rattle.lagtypes.specs.declared.party.Choice.TheVariants.{Unselected, Selected, Standby}
 use Rattle.portmachines.specs.declared.mux.MuxState.TheVariants.{Waiting, Attached, CollectingDistributing}
@@ -7,6 +7,7 @@ use Rattle.portmachines.specs.declared.receive.ReceiveState.TheVariants.{Expired
 use Rattle.portmachines.specs.Machines.{Machines}
 use Rattle.portmachines.specs.Mux.{partner_synchronized, selected}
 use Rattle.selection.specs.Choice.{chosen_aggregator, has_occupant, occupants_share_group, ports_that_chose}
+use Rattle.selection.specs.Limits.{is_in_use}
 use Rattle.lagsystem.specs.declared.port_status.PortStatus.{PortStatus}
 use Rattle.lagsystem.specs.declared.port_status.PortStatus.TheVariants as status
 use Rattle.lagsystem.specs.declared.system_ports.SystemPort.{SystemPort}
@@ -64,13 +65,19 @@ pub record FindsNoAggregator (s : SystemState) (x : SystemPort) : Type 0 where
   pub closed : (agg : AggId) → key_of s.keys agg.0 ≡ Some x.port.party.key
       → occupants_share_group (views s.system_ports) (selection_view x) agg ≡ false
 
--- the port is STANDBY with this aggregator, which has as many members as the limit of links
+-- the aggregator has as many members as the limit of links
+abbrev pub IsFull : SystemState → AggId → Type 0
+IsFull s agg = (most : ℕ) × (s.max_links ≡ Some most) × (length (ports_that_chose agg (views s.system_ports)) ≡ most)
+
+-- the aggregator is not in use, or is full
+abbrev pub HasNoRoom : SystemState → AggId → Type 0
+HasNoRoom s agg = (is_in_use s.in_use agg ≡ false) ⊎ IsFull s agg
+
+-- the port is STANDBY with this aggregator, which is not in use, or has as many members as the limit of links
 pub record FindsNoRoom (agg : AggId) (s : SystemState) (x : SystemPort) : Type 0 where
   pub hears : HearsPartner x.port
   pub chosen : x.port.choice ≡ Standby agg
-  pub most : ℕ
-  pub limit : s.max_links ≡ Some most
-  pub full : length (ports_that_chose agg (views s.system_ports)) ≡ most
+  pub room : HasNoRoom s agg
 
 -- a member of this aggregator in WAITING that has this many ticks of wait_while left
 pub record WaitsIn (agg : AggId) (ticks : ℕ) (x : SystemPort) : Type 0 where

@@ -36,6 +36,7 @@ mod system_readers;
 mod take_lacpdu;
 mod tick;
 mod transmit;
+mod uses;
 mod waiting;
 
 pub use arrayvec::ArrayVec;

@@ -1,6 +1,7 @@
--- A limit on the links of an aggregator: which aggregator has room, and which STANDBY port comes next (6.4.14; profile).
+-- A limit on the links of an aggregator, and aggregators that are not in use: which one has room, and which STANDBY port comes next (6.4.14;
+-- profile).
 use Rattle.std.specs.Prelude.{◌≡◌, ℕ, ◌+◌, ◌&&◌, nat_lt, Bool, true, false, List, [], ◌∷◌, length, if◌then◌else◌, Option, Some}
-use Rattle.std.specs.Prelude.{None, slice_get, All, option_map}
+use Rattle.std.specs.Prelude.{None, slice_get, All, option_map, ◌-◌, get_or, slice_set}
 use Rattle.std.specs.Ordering.{is_lt}
 use Rattle.lagtypes.specs.declared.identifiers.AggId.{AggId}
 use Rattle.lagtypes.specs.declared.identifiers.Key.{Key}
@@ -11,19 +12,30 @@ use Rattle.selection.specs.declared.view.PortView.{PortView}
 use Rattle.selection.specs.Views.{stands_by}
 use Rattle.selection.specs.Choice.{ports_that_chose, is_aggregator}
 
--- the aggregators of a system, as contracts see them: their keys, and how many members each may have; None: any number
+-- the aggregators of a system, as contracts see them: their keys; how many members each may have, None: any number; and whether each is in
+-- use
 pub record AggregatorsValue : Type 0 where
   pub keys : List Key
   pub max_links : Option ℕ
+  pub in_use : List Bool
+
+-- whether the aggregator is in use, where there is such an aggregator
+abbrev pub is_in_use : List Bool → AggId → Bool
+is_in_use in_use agg = get_or in_use (agg.0 - 1) true
+
+-- the aggregator is put in use, or out of use, if there is such an aggregator
+abbrev pub with_use : List Key → AggId → Bool → List Bool → List Bool
+with_use keys agg now in_use = if is_aggregator keys agg then slice_set in_use (agg.0 - 1) now else in_use
 
 -- one more may be added to this many
 abbrev pub is_below : Option ℕ → ℕ → Bool
 is_below None count = true
 is_below (Some most) count = nat_lt count most
 
--- there is such an aggregator, and it has fewer members than the limit
+-- there is such an aggregator, it is in use, and it has fewer members than the limit
 abbrev pub has_room : AggregatorsValue → List PortView → AggId → Bool
-has_room aggs views agg = is_aggregator aggs.keys agg && is_below aggs.max_links (length (ports_that_chose agg views))
+has_room aggs views agg =
+    (is_aggregator aggs.keys agg && is_in_use aggs.in_use agg) && is_below aggs.max_links (length (ports_that_chose agg views))
 
 -- the first port has a lower port identifier than the port of this row; so it has if there is no row
 abbrev pub is_before : PortView → Option StandbyRow → Bool

@@ -1,4 +1,4 @@
-ghost use Rattle.std.specs.Prelude.{◌≡◌, ◌≤◌, IfOk, IfSome, IsSomeAnd, None, filter, length};
+ghost use Rattle.std.specs.Prelude.{◌≡◌, ◌≤◌, ◌&&◌, IfOk, IfSome, IsSomeAnd, None, filter, length, replicate, true};
 ghost use Rattle.std.specs.List.{list_all, list_any};
 ghost use Rattle.std.specs.List.Sorted.{IsStrictlyIncreasing};
 ghost use Rattle.selection.specs.Views.{has_waited, is_detached_or_waiting};
@@ -18,22 +18,25 @@ pub struct Aggregators {
     keys: Vec<Key>,
     /// How many members each may have; None: any number.
     max_links: Option<u16>,
+    /// Whether each is in use, in the order of the keys.
+    in_use: Vec<bool>,
 }
 
 impl Model for Aggregators {
-    ghost use Rattle.std.specs.Prelude.{◌≤◌, length};
+    ghost use Rattle.std.specs.Prelude.{◌≡◌, ◌≤◌, length};
     ghost use Rattle.selection.specs.Limits.{AggregatorsValue};
 
     ghost Value = { AggregatorsValue };
 
-    ghost view = { λ a. record { keys = a.keys.items; max_links = a.max_links } };
+    ghost view = { λ a. record { keys = a.keys.items; max_links = a.max_links; in_use = a.in_use.items } };
 
-    ghost invariant = { λ a. length a.keys.items ≤ 65535 };
+    ghost invariant = { λ a. (length a.keys.items ≤ 65535) × (length a.in_use.items ≡ length a.keys.items) };
 }
 
 impl Aggregators {
     ghost use Rattle.selection.specs.Joining.{MayJoin};
     ghost use Rattle.selection.specs.Limits.{IsNext, IsNumberOfNext, has_room, next_standby, next_standby_index, next_standby_row};
+    ghost use Rattle.selection.specs.Limits.{is_in_use, with_use};
     ghost use Rattle.selection.specs.Views.{AreViews, numbers, find_view};
     ghost use Rattle.selection.specs.Choice.{chosen_aggregator, is_aggregator};
     ghost use Rattle.selection.specs.Ready.{is_ready, members};
@@ -51,7 +54,7 @@ impl Aggregators {
     }
 
     /// Makes aggregators as `new` does, with a limit: one that has `max_links` members or more has no room; None is no limit.
-    /// Keys after the first 65535 are left out. `NoMemory` if memory for them is refused (profile).
+    /// Each is in use. Keys after the first 65535 are left out. `NoMemory` if memory for them is refused (profile).
     pub fn with_limit(
         alloc: Global,
         keys: &[Key],
@@ -60,9 +63,15 @@ impl Aggregators {
         ensures first { IfOk result (λ a. a.keys ≡ first_65535 keys.now) }
         ensures all { IfOk result (λ a. length keys.now ≤ 65535 → a.keys ≡ keys.now) }
         ensures limit { IfOk result (λ a. a.max_links ≡ max_links) }
+        ensures used { IfOk result (λ a. a.in_use ≡ replicate (length a.keys) true) }
     {
         let keys = Vec::from_slice(alloc, first_65535(keys))?;
-        Ok(Aggregators { keys, max_links })
+        let in_use = vec![in alloc; true; keys.len()]?;
+        Ok(Aggregators {
+            keys,
+            max_links,
+            in_use,
+        })
     }
 
     // promise: the choice is that of `Choice`, by filters over all views; a port without a view or not eligible gets none
@@ -120,13 +129,13 @@ impl Aggregators {
         found
     }
 
-    // promise: an aggregator has room exactly if it exists and has fewer members than the limit
+    // promise: an aggregator has room exactly if it exists, is in use and has fewer members than the limit
     // contract: `room` (`has_room`)
-    /// Whether there is such an aggregator and it has fewer members than the limit (profile).
+    /// Whether there is such an aggregator, it is in use, and it has fewer members than the limit (profile).
     pub fn room(&self, views: &[PortView], agg: AggId) -> bool
         ensures { result ≡ has_room self.now views.now agg }
     {
-        self.is_aggregator(agg) && is_below(self.max_links, member_count(views, agg))
+        self.is_in_use(agg) && is_below(self.max_links, member_count(views, agg))
     }
 
     // promise: the STANDBY port that comes next is that of `Limits`: none without room; no other STANDBY port of the aggregator has a lower
@@ -178,6 +187,26 @@ impl Aggregators {
         ensures { self.new ≡ record self.old { max_links = max_links } }
     {
         self.max_links = max_links;
+    }
+
+    // promise: each aggregator is in use until `set_in_use` says otherwise, which changes nothing else
+    // contract: `with_limit` (`used`), `set_in_use`, `is_in_use`
+    /// Puts an aggregator in use, or out of use: one that is not in use has no room. Nothing changes if there is no such aggregator
+    /// (profile).
+    pub fn set_in_use(&mut self, agg: AggId, in_use: bool)
+        ensures { self.new ≡ record self.old { in_use = with_use self.old.keys agg in_use self.old.in_use } }
+    {
+        if self.is_aggregator(agg) {
+            let place = usize::from(agg.0) - 1;
+            self.in_use[place] = in_use;
+        }
+    }
+
+    /// Whether there is such an aggregator and it is in use (profile).
+    pub fn is_in_use(&self, agg: AggId) -> bool
+        ensures { result ≡ (is_aggregator self.now.keys agg && is_in_use self.now.in_use agg) }
+    {
+        self.is_aggregator(agg) && self.in_use[usize::from(agg.0) - 1]
     }
 
     /// How many aggregators there are, at most 65535 (profile).

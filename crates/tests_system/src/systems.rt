@@ -91,6 +91,8 @@ pub(crate) enum Row<'a> {
     Mode(u16, bool, bool, Result<(), SystemFault>),
     /// `set_max_links` returns this.
     Limit(Option<u16>, Result<(), SystemFault>),
+    /// `set_in_use` of an aggregator returns this; then `is_in_use` tells it, if there is this aggregator.
+    Uses(u16, bool, Result<(), SystemFault>),
     /// `set_max_delay`.
     Delay(u16),
     /// `transmit` returns an LACPDU with this Actor and Partner information and this CollectorMaxDelay.
@@ -487,6 +489,13 @@ fn sets<F: Fn(u16, usize) -> usize + Drop>(
         }
         Row::Limit(max_links, answer) => {
             same_in_case(rt, place, &system.set_max_links(max_links), &answer);
+        }
+        Row::Uses(agg, in_use, answer) => {
+            let came = system.set_in_use(AggId(agg), in_use);
+            same_in_case(rt, place, &came, &answer);
+            let told = system.is_in_use(AggId(agg));
+            same_in_case(rt, place, &told.is_some(), &answer.is_ok());
+            same_in_case(rt, place, &told.unwrap_or(in_use), &in_use);
         }
         Row::Delay(max_delay) => system.set_max_delay(max_delay),
         _ => {}

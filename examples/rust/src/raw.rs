@@ -6,7 +6,7 @@
 
 use std::ffi::c_void;
 
-pub const NIW_VERSION: u32 = 12;
+pub const NIW_VERSION: u32 = 13;
 pub const NIW_FRAME: u32 = 124;
 pub const NIW_PAYLOAD_LENGTH: u32 = 110;
 pub const NIW_SHORTEST_FRAME: u32 = 14;
@@ -470,6 +470,7 @@ extern "C" {
     pub fn lagffi_set_mode(handle: *mut System, port: u16, active: bool, short_timeout: bool) -> u32;
     pub fn lagffi_set_max_delay(handle: *mut System, max_delay: u16) -> u32;
     pub fn lagffi_set_max_links(handle: *mut System, max_links: u16) -> u32;
+    pub fn lagffi_set_in_use(handle: *mut System, agg: u16, in_use: bool) -> u32;
     pub fn lagffi_active_aggregator(handle: *mut System, now: u16) -> Number;
     pub fn lagffi_conversation(handle: *mut System, frame: *const u8, length: usize) -> Number;
     pub fn lagffi_conversation_state(handle: *mut System, agg: u16, conv: u16) -> Assignment;

@@ -8,7 +8,8 @@ from repository import Missing
 from sources import Export, Field, Structs
 
 # What changes much is called seldom, and what a host calls most, more often than the rest: one call in so many, and so many calls.
-SELDOM = {"new": 3, "free": 60, "restart": 60, "set_link": 12, "hold": 12, "set_mode": 20, "configure": 30, "set_max_links": 20, "ticks": 8,
+SELDOM = {"new": 3, "free": 60, "restart": 60, "set_link": 12, "hold": 12, "set_mode": 20, "configure": 30, "set_max_links": 20,
+          "set_in_use": 20, "ticks": 8,
           "queue_free": 8, "force_port": 8}
 OFTEN = {"tick": 6, "receive": 10, "offer": 3, "offer_conversation": 6, "move_conversation": 3, "queue_put": 6}
 # What asks for memory.
@@ -16,7 +17,7 @@ ALLOCATE = ("new", "resume", "queue_new")
 # Parameters that are scalars, by their names.
 SCALARS = {
     "port": "port_of()", "agg": "agg_of()", "conv": "conv_of()", "now": "agg_of()", "up": "!seldom(4)", "hold": "seldom(3)", "active": "!seldom(3)",
-    "short_timeout": "!seldom(3)", "max_delay": "(uint16_t)any(65536)", "max_links": "(uint16_t)(seldom(3) ? any(70) : 0)", "what": "any(8)",
+    "short_timeout": "!seldom(3)", "max_delay": "(uint16_t)any(65536)", "max_links": "(uint16_t)(seldom(3) ? any(70) : 0)", "in_use": "!seldom(3)", "what": "any(8)",
     "count": "seldom(60) ? 65536 + any(9) : any(seldom(40) ? 400 : 12)", "conversations": "(uint16_t)(seldom(4) ? any(5000) : 256)",
     "in_all": "any(60)", "each": "any(20)", "actor_state": "(uint8_t)any(256)", "partner_state": "(uint8_t)any(256)",
     "frame": "(uint64_t)any(1u << 31) << 20",

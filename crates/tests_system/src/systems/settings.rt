@@ -1,4 +1,4 @@
-use crate::systems::{Case, DATA, Given, ONE, Response, Row, Side, THIRD, plays_cases};
+use crate::systems::{Case, DATA, Given, ONE, Response, Row, Side, THIRD, TWO, plays_cases};
 use lagsystem::{AggId, BadConfig, Choice, MuxState, PortStatus, SystemFault};
 
 const SELECTED: Choice = Choice::Selected(AggId(1));
@@ -181,6 +181,56 @@ const DELAYED: [Row<'static>; 10] = [
     Row::SendsWith(1, Side::Of(1, 1, 1, 0xc7), Side::Nobody(0x02), 27),
 ];
 
+/// Two partners; the aggregator of the second one is not in use. No more than one aggregator carries at a time.
+const ONE_OF_TWO_IN_USE: [Row<'static>; 10] = [
+    Row::Uses(2, false, Ok(())),
+    Row::Links(&[1, 2]),
+    Row::Joins(2, &[1]),
+    Row::Joins(3, &[2]),
+    Row::Ticks(20),
+    Row::Chosen(1, SELECTED),
+    Row::Chosen(2, Choice::Standby(AggId(2))),
+    Row::Status(2, PortStatus::Standby(AggId(2))),
+    Row::Distributing(1, &[1]),
+    Row::Distributing(2, &[]),
+];
+
+/// The other aggregator carries in the same tick, since wait_while of its port has expired.
+const THE_OTHER_ONE: [Row<'static>; 14] = [
+    Row::Timers(2, 10, 0, true),
+    Row::Uses(1, false, Ok(())),
+    Row::Chosen(1, STANDBY),
+    Row::Mux(1, MuxState::Waiting),
+    Row::Timers(1, 10, 20, true),
+    Row::Distributing(1, &[]),
+    Row::Distributing(2, &[]),
+    Row::Sends(1, Side::Of(1, 1, 1, 0x07), Side::Of(2, 1, 1, 0x0d)),
+    Row::Uses(2, true, Ok(())),
+    Row::Chosen(2, Choice::Selected(AggId(2))),
+    Row::Distributing(1, &[]),
+    Row::Distributing(2, &[2]),
+    Row::Sends(2, Side::Of(1, 2, 1, 0x3f), Side::Of(3, 2, 1, 0x0d)),
+    Row::Status(1, PortStatus::Standby(AggId(1))),
+];
+
+const NO_SUCH_AGGREGATOR: [Row<'static>; 5] = [
+    Row::Uses(3, false, Err(SystemFault::NoAggregator)),
+    Row::Uses(0, false, Err(SystemFault::NoAggregator)),
+    Row::Distributing(2, &[2]),
+    Row::Uses(2, true, Ok(())),
+    Row::Distributing(2, &[2]),
+];
+
+/// A restart keeps what was set.
+const STILL_ONE_IN_USE: [Row<'static>; 6] = [
+    Row::Restart,
+    Row::Links(&[1]),
+    Row::Joins(2, &[1]),
+    Row::Chosen(1, STANDBY),
+    Row::Uses(1, true, Ok(())),
+    Row::Chosen(1, SELECTED),
+];
+
 const LATER_FROM_FIVE: Given<'static> = Given {
     first_marker: 5,
     ports: &[3, 4],
@@ -203,7 +253,7 @@ const PASSIVE: Given<'static> = Given {
     ..ONE
 };
 
-const CASES: [Case<'static>; 8] = [
+const CASES: [Case<'static>; 9] = [
     ("held before", ONE, &[&HELD_BEFORE]),
     ("held", LATER_FROM_FIVE, &[&TWO_UP, &HELD, &LET_GO]),
     ("a restart", LATER, &[&TWO_UP, &RESTARTED]),
@@ -216,6 +266,16 @@ const CASES: [Case<'static>; 8] = [
         "limits",
         THREE_LIMITED,
         &[&ONE_OF_THREE, &RAISED, &DOWN, &AGAIN, &JOINED],
+    ),
+    (
+        "in use",
+        TWO,
+        &[
+            &ONE_OF_TWO_IN_USE,
+            &THE_OTHER_ONE,
+            &NO_SUCH_AGGREGATOR,
+            &STILL_ONE_IN_USE,
+        ],
     ),
     ("modes", ONE, &[&OTHER_MODES]),
     ("begins to send", PASSIVE, &[&BEGINS_TO_SEND]),

@@ -36,7 +36,8 @@ returns-clause-made g c = let config = c.args.config in
     ∙ ap (λ n. first_table n config.conversations config.first_marker) count in
     let limit = c.in_ok-aggregators.ensures.limit in
     let last = inner_state c.settle_ports.new.self in
-    let settles = started_by config aggs.keys aggs.max_links system_ports t last table c.settle_ports.ensures.settled in
+    let settles = started_by config aggs.keys aggs.max_links aggs.in_use system_ports t last table c.in_ok-aggregators.ensures.used
+    c.settle_ports.ensures.settled in
     let first = first_made config aggs.keys aggs.max_links system_ports last new settles in record {
       first = first;
       configured = configured_made config aggs.keys aggs.max_links system_ports last keys limit settles;
