@@ -5,7 +5,7 @@ use Rattle.lagbeside.proofs.Common.{ReceiveState, Current, Defaulted, Initialize
 use Rattle.lagbeside.proofs.Common.{lacpdu_rows, receive_rows, start_receive, Fires, FiresTimes, Row, RunsToRest, Starts, before_start, aged}
 use Rattle.lagbeside.proofs.Common.{count_down, Reply, SystemFault, Call, Configure, ProcessesLacpdu, Receive, Restart, Set_link, Tick, Transmit}
 use Rattle.lagbeside.proofs.Common.{changed_party, choice_with_link, Setting, SettingStep, SystemState, EachSettingKeepsTimed, IsTimed, KeepsTimeout}
-use Rattle.lagbeside.proofs.Common.{most_current_while, most_periodic_timer, timeout_time}
+use Rattle.lagbeside.proofs.Common.{Expired, false, true, most_current_while, most_periodic_timer, not, same_receive_state, timeout_time, ◌&&◌}
 use Rattle.lagbeside.proofs.EachPort.{KeptByCall, KeptBySettling, OfEach}
 use Rattle.lagbeside.proofs.EachSetting.{KeptBySetting, Setting-each}
 
