@@ -72,7 +72,7 @@ pub use Rattle.lagsystem.proofs.Rising.{Rises, all-get, all-set, found_place, po
 pub use Rattle.lagbeside.specs.Hearing.{IsNoticed, LeavesUnheard, processed_on}
 pub use Rattle.lagbeside.specs.Heartbeat.{EachCall, IsHeard, IsSilentShortly, LeavesUpAndSilent, tick_count}
 pub use Rattle.lagbeside.specs.Runs.{ActiveOnlyIf, AsideTimes, Asides, IsAside, LeavesPort, OnceTicked, Runs}
-pub use Rattle.lagbeside.specs.Selecting.{IsFull, SharesGroup, StandsByFull, WantsAggregator, aggregators_with, ports_with}
+pub use Rattle.lagbeside.specs.Selecting.{SharesGroup, StandsByFull, WantsAggregator, aggregators_with, ports_with}
 pub use Rattle.lagbeside.specs.Serving.{Brings, CarriesBeside, ComesUp, ComesUpAlone, Fed, IsOnlyOfKey, IsServed, IsUnanswered, LeavesServed}
 pub use Rattle.lagbeside.specs.Serving.{LeavesUnanswered, NeverAlone, NoneBegins, Serves, Service, StaysUp, WaitsAreBounded, begins_in, in_sync}
 pub use Rattle.lagbeside.specs.Silence.{IsLoud, SilentFor, Speaks}

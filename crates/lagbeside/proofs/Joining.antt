@@ -11,7 +11,7 @@ use Rattle.lagbeside.proofs.Common.{OnceTicked, Runs, NoneBegins, WaitsAreBounde
 use Rattle.lagbeside.specs.Joining.{LetsNoneJoin, NoneBeginsToWait, OthersStandApart, SetsNoneFree, StandsApart}
 use Rattle.lagbeside.proofs.Alone.{begins_not}
 use Rattle.lagbeside.proofs.EachPort.{KeptByCall, KeptBySettling, MayBeGiven, OfEach, Step-each, Tick-each}
-use Rattle.lagbeside.proofs.EachSetting.{KeptBySetting, asides_each, asides_sound, kept_key, key_after, runs_weaken}
+use Rattle.lagbeside.proofs.EachSetting.{KeptBySetting, asides_each, asides_sound, kept_key, key_after, runs_weaken, used_port}
 use Rattle.lagbeside.proofs.Hearing.{EnabledKeep, both, is_number, no, times_keep}
 use Rattle.lagbeside.proofs.Knowing.{decoded}
 use Rattle.lagbeside.proofs.Never.{timed_bits}

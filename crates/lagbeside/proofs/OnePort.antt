@@ -5,7 +5,7 @@ use Rattle.lagbeside.proofs.Common.{Machines, mux_rows, RunsPeriodic, periodic_r
 use Rattle.lagbeside.proofs.Common.{Call, Step, TableRun, Tick, configured_numbers, PeriodicIsSettled, Setting, IsSound, SystemState, port_numbers}
 use Rattle.lagbeside.proofs.Common.{Step-frame, Rises, all-get, ports_rise, EachCall, tick_count, Asides, LeavesPort, Runs}
 use Rattle.lagbeside.proofs.EachPort.{KeptByCall, KeptBySettling, OfEach, Step-each, Tick-each}
-use Rattle.lagbeside.proofs.EachSetting.{KeptBySetting, asides_each, asides_sound, runs_ports}
+use Rattle.lagbeside.proofs.EachSetting.{KeptBySetting, asides_each, asides_sound, runs_ports, used_port}
 use Rattle.lagbeside.proofs.Timers.{runs_keep}
 
 -- the port with number n is so

@@ -1,4 +1,6 @@
 -- Where each aggregator of a key has an occupant, there are fewer of them than ports of that key.
+use Rattle.selection.specs.Limits.{is_in_use}
+use Rattle.lagsystem.specs.StatusMeaning.{HasNoRoom}
 use Rattle.lagbeside.proofs.Common.{Bool, List, None, Option, Some, [], ap, arith, cond, eqb-true, false, find, if◌then◌else◌, inl, inr, length}
 use Rattle.lagbeside.proofs.Common.{nat_le, not, option_map, refl, slice_get, subst, suc, sym, true, zero, ℕ, ◌&&◌, ◌+◌, ◌==◌, ◌||◌, ◌∙◌, ◌∷◌, ◌≡◌}
 use Rattle.lagbeside.proofs.Common.{◌≤◌, ◌⊎◌, and_parts, cases_Bool, nat_tests, none-some, same_Some, enumerate_from, list_all, list_any, AggId, Key}
@@ -7,7 +9,7 @@ use Rattle.lagbeside.proofs.Common.{Attached, CollectingDistributing, Waiting, R
 use Rattle.lagbeside.proofs.Common.{PortView, aggregator_of_entry, chosen_if_eligible, has_group_of, has_no_occupant, has_occupant, is_aggregator}
 use Rattle.lagbeside.proofs.Common.{lowest, occupants, occupants_share_group, or_else, ports_that_chose, has_room, is_below, is_detached, is_eligible}
 use Rattle.lagbeside.proofs.Common.{occupies, stands_by, SystemPort, key_of, MuxIsSettled, OccupantsAgree, WithinLimit, occupied, IsSound}
-use Rattle.lagbeside.proofs.Common.{SystemState, aggregators_value, may_choose, selection_view, stage_of, views, all-get, ports_rise, IsFull}
+use Rattle.lagbeside.proofs.Common.{SystemState, aggregators_value, may_choose, selection_view, stage_of, views, all-get, ports_rise}
 use Rattle.lagbeside.proofs.Common.{SharesGroup, StandsByFull, WantsAggregator, aggregators_with, ports_with}
 use Rattle.lagtypes.specs.Group.{individual}
 use Rattle.selection.proofs.LimitLemmas.{NoneStandsBy, none_is_next}

@@ -8,7 +8,7 @@ use Rattle.lagbeside.proofs.Common.{Step, ThenSettles, Tick, Transmit, choice_wi
 use Rattle.lagbeside.proofs.Common.{port_index, named, all-get, found_place, processed_on, EachCall, tick_count, Asides, LeavesPort, Runs, Fed}
 use Rattle.lagbeside.proofs.Common.{IsServed, LeavesServed, Serves, Service, in_sync, timeout_time}
 use Rattle.lagsystem.specs.declared.drive.Reply.TheVariants as reply
-use Rattle.lagbeside.proofs.EachSetting.{KeptBySetting, asides_each, asides_sound}
+use Rattle.lagbeside.proofs.EachSetting.{KeptBySetting, asides_each, asides_sound, used_port}
 use Rattle.lagbeside.proofs.EachPort.{KeptByCall, KeptBySettling, OfEach, Step-each, Tick-each, took}
 use Rattle.lagbeside.proofs.Hearing.{EnabledKeep, both, is_number, no, stays_up, times_keep}
 use Rattle.lagbeside.proofs.Knowing.{asleep, decoded, rests_still, starts_with, takes_each}

@@ -1,4 +1,5 @@
 -- What happens to a port leaves no timer above the ticks that it can start with.
+use Rattle.lagsystem.specs.Uses.{choice_with_use}
 use Rattle.lagbeside.proofs.Common.{Bool, List, Result, [], arith, cond, if◌then◌else◌, inl, inr, nat_lt, refl, subst, suc, sym, zero, ℕ, ◌++◌, ◌+◌}
 use Rattle.lagbeside.proofs.Common.{◌-◌, ◌<◌, ◌∷◌, ◌≡◌, ◌≤◌, nat_tests, AllByRecursion, Choice, Unselected, Lacpdu, PeriodicState, Setup}
 use Rattle.lagbeside.proofs.Common.{ReceiveState, Current, Defaulted, Initialize, PortDisabled, with_mode, Machines, mux_rows, periodic_rows}

@@ -1,6 +1,6 @@
 -- Ports of a key that have joined an aggregator, or whose link is down, do not begin to wait while they hear what they have recorded
 -- (6.4.12 to 6.4.15).
-use Rattle.std.specs.Prelude.{◌≡◌, ◌≢◌, ◌≤◌, ◌<◌, ◌⊎◌, ℕ, false, List, Option, None, Some, Ok}
+use Rattle.std.specs.Prelude.{◌≡◌, ◌≢◌, ◌≤◌, ◌<◌, ◌⊎◌, ℕ, true, false, List, Option, None, Some, Ok}
 use Rattle.std.specs.List.{AllByRecursion}
 use Rattle.lagtypes.specs.Choices.{is_unselected}
 use Rattle.lagtypes.specs.declared.identifiers.AggId.{AggId}

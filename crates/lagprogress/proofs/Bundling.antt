@@ -1,4 +1,6 @@
 -- How the links of a bundle come up and agree.
+use Rattle.lagsystem.specs.StatusMeaning.{IsFull}
+use Rattle.lagbeside.proofs.Hearing.{no}
 use Rattle.lagprogress.proofs.Common.{Bool, IsSome, List, None, Option, Some, [], ap, arith, inl, inr, is_some, length, map, refl, slice_get, subst}
 use Rattle.lagprogress.proofs.Common.{suc, sym, true, ℕ, ◌+◌, ◌-◌, ◌==◌, ◌∙◌, ◌∷◌, ◌≡◌, ◌≢◌, ◌≤◌, ◌⊎◌, cases_Bool, nat_tests, same_Some}
 use Rattle.lagprogress.proofs.Common.{AllByRecursion, AggId, Key, Choice, Standby, is_selected, itself, Lacpdu, IsCabling, One, Side, Two, end_at}

@@ -1,4 +1,5 @@
 -- Selected stays what it is in a bundle, once each end knows its partner.
+use Rattle.selection.specs.Limits.{is_in_use}
 use Rattle.lagprogress.proofs.Common.{Bool, List, None, Some, [], ap, arith, false, if◌then◌else◌, inl, inr, length, not, option_map, refl, slice_get}
 use Rattle.lagprogress.proofs.Common.{slice_set, subst, suc, sym, true, zero, ℕ, ◌&&◌, ◌||◌, ◌∙◌, ◌∷◌, ◌≡◌, ◌⊎◌, and_parts, nat_tests, none-some}
 use Rattle.lagprogress.proofs.Common.{same_Some, AllByRecursion, list_all, AggId, Key, Choice, Party, is_unselected, system-itself, Lacpdu, party_of}

@@ -1,4 +1,7 @@
 -- What calls and settings of hosts leave of both systems.
+use Rattle.lagsystem.specs.Settings.{Set_in_use}
+use Rattle.lagsystem.specs.Uses.{choice_with_use}
+use Rattle.lagbeside.proofs.EachSetting.{used_port}
 use Rattle.lagprogress.proofs.Common.{Bool, Err, List, None, Ok, Option, Result, Some, [], ap, arith, false, inl, inr, refl, subst, sym, true, ℕ, ◌∙◌}
 use Rattle.lagprogress.proofs.Common.{◌∷◌, ◌≡◌, ◌≤◌, ◌⊎◌, nat_tests, none-some, same_Some, AggId, Choice, Lacpdu, One, Side, peer, Machines}
 use Rattle.lagprogress.proofs.Common.{Assignment, Table, next_identifier, HostCall, HostReply, SystemFault, SystemPort, OffersIf, Carries, IsFrame}

@@ -1,4 +1,7 @@
 -- What healthy rounds leave of the ports and aggregators of a system.
+use Rattle.std.specs.Prelude.{Bool}
+use Rattle.selection.specs.Limits.{is_in_use}
+use Rattle.lagsystem.specs.Uses.{AllInUse}
 use Rattle.lagprogress.proofs.Common.{List, Option, Some, [], ap, arith, filter, inl, inr, length, option_map, refl, slice_get, subst, suc, sym, true}
 use Rattle.lagprogress.proofs.Common.{zero, ℕ, ◌<◌, ◌==◌, ◌∙◌, ◌∷◌, ◌≡◌, ◌≤◌, ◌⊎◌, nat_tests, slice_get_cases, slice_get_within, AllByRecursion, Key}
 use Rattle.lagprogress.proofs.Common.{Party, StateBits, Lacpdu, IsCabling, One, Side, peer, Machines, receive_rows, RunsToRest, actor_of, count_down}

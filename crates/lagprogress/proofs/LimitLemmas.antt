@@ -1,4 +1,6 @@
 -- How the links of a bundle agree where one system has a limit of links.
+use Rattle.selection.specs.Limits.{is_in_use}
+use Rattle.lagsystem.specs.StatusMeaning.{IsFull}
 use Rattle.lagprogress.proofs.Common.{Bool, Err, IsSome, None, Ok, Option, Some, ap, arith, false, if◌then◌else◌, inl, inr, refl, slice_get, subst}
 use Rattle.lagprogress.proofs.Common.{suc, sym, true, ℕ, ◌+◌, ◌∙◌, ◌≡◌, ◌⊎◌, cases_Bool, AggId, SystemId, Choice, Selected, Standby, Unselected}
 use Rattle.lagprogress.proofs.Common.{Party, is_selected, same_party, Lacpdu, party_of, One, Side, Two, end_at, peer, Setup, Machines, selected}
@@ -11,7 +13,7 @@ use Rattle.lagprogress.proofs.Common.{periodic_leaves, RowsKeep, runs_keep, take
 use Rattle.lagprogress.proofs.Common.{OfPort}
 use Rattle.lagprogress.proofs.SharedLemmas.{played_lasted, shared_finds, standing}
 use Rattle.lagprogress.proofs.EachRound.{played_join, played_steady, RoundKeeps, played_pass, same_on, each_on}
-use Rattle.lagprogress.proofs.Lasting.{played_alike, played_before, all_by_place, ends_at, own_system, still_heard, still_links, Alike, end_of}
+use Rattle.lagprogress.proofs.Lasting.{played_alike, played_before, all_by_place, ends_at, own_system, still_heard, still_links, still_used, Alike, end_of}
 use Rattle.lagprogress.proofs.Linked.{each_side, events_each, machines_there}
 use Rattle.lagprogress.specs.Limited.{CarriesOnAll, DownAreUnselected, EachLimitedLinkAgrees, EachReachedHasDownUnselected, EndsAgreed}
 use Rattle.lagprogress.specs.Limited.{IsLimitedBundle, StandsByOthers}

@@ -1,5 +1,5 @@
 -- Late rounds in which hosts set other ports: a link that is up stays up (6.4.2.3, 6.4.7, 6.4.8; profile).
-use Rattle.std.specs.Prelude.{◌≡◌, ◌≢◌, ◌≤◌, ℕ, suc, Some}
+use Rattle.std.specs.Prelude.{◌≡◌, ◌≢◌, ◌≤◌, ℕ, suc, true, Some}
 use Rattle.lagmodel.specs.World.{Side}
 use Rattle.lagsystem.specs.Settings.{Hold_port, Set_in_use, Set_mode}
 use Rattle.laghosts.specs.HostEvents.{HostEvent, Sets}
