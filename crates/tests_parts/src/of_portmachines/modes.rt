@@ -27,38 +27,42 @@ const MODES: [Step; 19] = [
 ];
 
 /// A port in CURRENT whose partner was told Short Timeout, and sends again 30 s after it is told Long Timeout.
-const LONGER: [Step; 13] = [
-    Step::Told(0x3f, end(1, 0x07)),
-    Step::Run(28),
-    Step::Is(Fact::CurrentWhile(2)),
-    // not by another LACP_Activity
-    Step::Mode(false, true),
-    Step::Is(Fact::CurrentWhile(2)),
-    Step::Mode(false, false),
-    Step::Is(Fact::CurrentWhile(900)),
-    Step::Run(899),
-    Step::Is(Fact::Receive(ReceiveState::Current)),
-    Step::Run(1),
-    Step::Is(Fact::Receive(ReceiveState::Expired)),
-    // the short time, in EXPIRED
-    Step::Mode(false, true),
-    Step::Is(Fact::CurrentWhile(30)),
-];
+fn longer() -> [Step; 13] {
+    [
+        Step::Told(0x3f, end(1, 0x07)),
+        Step::Run(28),
+        Step::Is(Fact::CurrentWhile(2)),
+        // not by another LACP_Activity
+        Step::Mode(false, true),
+        Step::Is(Fact::CurrentWhile(2)),
+        Step::Mode(false, false),
+        Step::Is(Fact::CurrentWhile(900)),
+        Step::Run(899),
+        Step::Is(Fact::Receive(ReceiveState::Current)),
+        Step::Run(1),
+        Step::Is(Fact::Receive(ReceiveState::Expired)),
+        // the short time, in EXPIRED
+        Step::Mode(false, true),
+        Step::Is(Fact::CurrentWhile(30)),
+    ]
+}
 
 /// In EXPIRED the timer goes on, whichever Timeout follows.
-const EXPIRED: [Step; 5] = [
-    Step::Told(0x3f, end(1, 0x07)),
-    Step::Run(37),
-    Step::Is(Fact::Receive(ReceiveState::Expired)),
-    Step::Mode(true, false),
-    Step::Is(Fact::CurrentWhile(23)),
-];
+fn expired() -> [Step; 5] {
+    [
+        Step::Told(0x3f, end(1, 0x07)),
+        Step::Run(37),
+        Step::Is(Fact::Receive(ReceiveState::Expired)),
+        Step::Mode(true, false),
+        Step::Is(Fact::CurrentWhile(23)),
+    ]
+}
 
 #[test]
 fn modes_are_told_and_timers_run_by_whose_timeout(rt: HostRuntime) {
     walk(&rt, "modes", port_after_a_second(), &MODES);
-    walk(&rt, "modes", quiet_port(true, true), &LONGER);
-    walk(&rt, "modes", quiet_port(true, true), &EXPIRED);
+    walk(&rt, "modes", quiet_port(true, true), &longer());
+    walk(&rt, "modes", quiet_port(true, true), &expired());
     let known = end(1, 0x07);
     walk(
         &rt,
