@@ -12,7 +12,7 @@ import { octetsBeside } from "./octets.js";
 import { changesOf } from "./timeline.js";
 import { Viewing } from "./viewing.js";
 import { offer, pictureOf, textOfPicture } from "./saving.js";
-import { button, made, table } from "./shapes.js";
+import { button, made, madeWhole, table } from "./shapes.js";
 
 /* The most frames that are listed of a link, besides those of findings; the most lines of links, places of a cause and lines of it that do
  * not fold. */
@@ -160,7 +160,7 @@ function headOf(title, item) {
 
 /* What a cause says behind its title: what to do, what is seen, where it shows, and what follows from it. */
 function partsOf(item, pairOf) {
-    const said = foldedBehind(item.lines.map((line, number) => made("span", line, number ? "line" : "line first")), MOST_SAID, "line");
+    const said = foldedBehind(item.lines.map((line, number) => madeWhole("span", line, number ? "line" : "line first")), MOST_SAID, "line");
     return [made("span", item.unexplained ? `${item.advice} ${item.unexplained}` : item.advice), ...said, ...placesOf(item, pairOf), ...effectsOf(item, pairOf)];
 }
 
@@ -177,7 +177,7 @@ const LOOKS = new Map([[CARRIES, "good"], [IDLE, "bad"]]);
 /* A line a link: whether it carries, and why not. */
 function lineIn(line) {
     const it = made("li"), text = textOfLine(line);
-    it.append(made("b", text.slice(0, line.name.length)), made("span", text.slice(line.name.length), LOOKS.get(line.how)));
+    it.append(madeWhole("b", text.slice(0, line.name.length)), madeWhole("span", text.slice(line.name.length), LOOKS.get(line.how)));
     return it;
 }
 

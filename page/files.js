@@ -195,7 +195,7 @@ async function whyUnknown(file) {
 
 /* What the module says of one file that is no capture: which program packed it, or what is read. */
 export async function saidOf(said, [file]) {
-    if (!said.includes(UNKNOWN_FILE)) return file.size ? said : said.replace(/octet 0: cut short/, "it is empty");
+    if (!said.includes(UNKNOWN_FILE)) return said.replace(/octet 0: (?=packed by)/, "").replace(/octet 0: cut short/, (it) => file.size ? it : "it is empty");
     const why = await whyUnknown(file);
     return said.replace(/octet 0: neither pcap nor pcapng(: \d+)?/, why === UNKNOWN_FILE ? `${why}: ${WHAT_IS_READ}` : why);
 }

@@ -12,6 +12,13 @@ export function made(name, text, kind) {
     return it;
 }
 
+/* The same, where no line breaks within a MAC address. */
+export function madeWhole(name, text, kind) {
+    const it = made(name, "", kind), address = /((?:[0-9a-f]{2}-){5}[0-9a-f]{2})/;
+    it.append(...text.split(address).filter(Boolean).map((part) => address.test(part) ? made("span", part, "address") : part));
+    return it;
+}
+
 export function button(text, act, kind) {
     const it = made("button", text, kind);
     it.type = "button";

@@ -392,7 +392,7 @@ function causesNamed(bundles, causes) {
 export function headlineOfTexts(texts, lines, causes) {
     const carry = lines.filter(({ how }) => how === CARRIES).length, all = lines.length, named = causesNamed(texts[0].bundles, causes);
     const few = causes.filter(({ kind, rank }) => kind === FAULT && rank === "too-few" && !named.some((it) => it.rank === rank)).map(sentenceOf).join(" ");
-    const head = few ? `${few} ` : howManySaid(lines, texts[0].bundles);
+    const head = `${howManySaid(lines, texts[0].bundles)}${few ? `${few} ` : ""}`;
     if (texts.some(isCutIn)) return [cutSaid(texts), "bad"];
     if (named.length) return [`${head}${named.map(sentenceOf).join(" ")}`, "bad"];
     if (!all) return ["No port of an LACP bundle is in this text.", "bad"];

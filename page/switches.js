@@ -95,6 +95,8 @@ const DOTTED = "[0-9a-f]{4}\\.[0-9a-f]{4}\\.[0-9a-f]{4}";
 const NEIGHBOUR = new RegExp(`^\\s*(\\S+)\\s+([SFAP]{2})\\s+(\\d+)\\s+(${DOTTED})\\s+\\d+s?\\s+(?:0x[0-9a-f]+\\s+)?(0x[0-9a-f]+)\\s+(0x[0-9a-f]+)\\s+(0x[0-9a-f]+)\\s*$`, "i");
 /* Of the detailed form the line of the system, and the one of the key, behind it. */
 const SYSTEM_LINE = new RegExp(`^\\s*(\\S+)\\s+(\\d+),\\s*(${DOTTED})\\s+(0x[0-9a-f]+|\\d+)\\s+\\d+s?\\s+([SFAP]{2})\\s*$`, "i");
+/* A state of one digit, of two perhaps, at the very end of a text. */
+const MAY_GO_ON = / 0x[0-9a-f]$/i;
 const KEY_LINE = /^\s*(\d+)\s+(0x[0-9a-f]+)\s+(0x[0-9a-f]+)\s*$/i;
 
 function neighbours(text) {
@@ -113,10 +115,10 @@ function neighbours(text) {
         if (keys && detail) put(ofNeighbour(detail.port, { ...detail.partner, portPriority: printedNumber(keys[1]), key: printedNumber(keys[2]), state: printedNumber(keys[3]) }));
         if (keys) detail = null;
     }
-    const bundles = groups.map(bundleHeard);
-    const note = bundles.length ? lacks("this text", "this switch's own end", "show lacp internal has it; show etherchannel summary (NX-OS: show port-channel summary) says which ports are bundled.")
-        : { name: "no-lacp", text: "no neighbor is in this text: no LACPDU comes on a port of these groups, or LACP is off", advice: "Look at the other end: a Linux bond has mode=802.3ad. channel-group N mode active sets LACP here." };
-    return { form: "switch", bundles, notes: [note] };
+    const note = lacks("this text", "this switch's own end", "show lacp internal has it; show etherchannel summary (NX-OS: show port-channel summary) says which ports are bundled.");
+    const isCut = !groups.length || detail !== null || MAY_GO_ON.test(text);
+    const cut = groups.length ? "its last row may go on" : "it has no row of a neighbor (if it is whole, no LACPDU comes on a port of these groups: look at the other end; a Linux bond has mode=802.3ad)";
+    return { form: "switch", bundles: isCut ? [bundleOfText("the group", "the group", [], { isCut, cut })] : groups.map(bundleHeard), notes: isCut ? [] : [note] };
 }
 
 /* A bundle of a group with its ports: each group is another key of this end. A neighbour whose system is 0 is none. */

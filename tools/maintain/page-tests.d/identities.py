@@ -132,7 +132,7 @@ def of_silence(tests: Tests, folder: str) -> None:
     one, other = links[1]
     dead = [*made.exchange(one, other, made.at(0, 20)), *made.sends(one, other, made.at(0.1, 20, 23)), *made.sends(one._replace(state=made.EXPIRED), other, made.at(0.1, 23, 26)), *made.sends(one._replace(state=made.DEFAULTED), None, made.at(0.1, 26, 60))]
     status, text = told(path, [made.exchange(*links[0], made.at(0.05, 60)), dead], ["eth1", "eth2"])
-    tests.same("nothing more comes", [status, text.partition("\n")[0], "receive fibre" in text, "Look at this end, not at its partner" in text], [1, "1 of 2 links carries. Nothing more comes from an end on eth2.", True, False])
+    tests.same("nothing more comes", [status, text.partition("\n")[0], "receive fibre" in text, "Look at this end, not at its partner" in text], [1, "1 of 2 links carries. Nothing more comes from an end: eth2.", True, False])
 
 
 def of_cut(tests: Tests, folder: str) -> None:

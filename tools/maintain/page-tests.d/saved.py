@@ -40,9 +40,9 @@ def of_saving(tests: Tests, browser: Browser, folder: str, page: str, pictures: 
 
 def of_report(tests: Tests, browser: Browser, printed: str) -> None:
     """The report, which is open in the browser."""
-    counts = browser.value("['script', 'button', 'input', 'svg', '#findings > li'].map((it) => document.querySelectorAll(it).length)")
+    counts = browser.value("['script', 'button', 'input', '#picture svg[role=img] desc', 'svg.picture', '#findings > li'].map((it) => document.querySelectorAll(it).length)")
     rules = {it.split()[1] for it in printed.splitlines() if it.startswith("finding ")}
-    tests.same("the report has the causes and a picture, and no script", counts, [0, 0, 0, 1, 2])
+    tests.same("the report has the causes, both pictures, and no script", counts, [0, 0, 0, 1, 1, 2])
     told = browser.value("[...document.querySelectorAll('#findings .rule')].map((it) => it.textContent.split(' ')[2].replace(',', ''))")
     tests.same("what is folded is in it, too", sorted(told), sorted(rules))
     policy = browser.value("document.querySelector('meta[http-equiv]').content")

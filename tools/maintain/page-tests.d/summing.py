@@ -326,7 +326,7 @@ def of_unread(tests: Tests, folder: str) -> None:
         ([good, paths[0]], "1 of 2 files was not read (xz). The link carries, both ways."),
         ([paths[1], good], "1 of 2 files was not read (neither pcap nor pcapng). The link carries, both ways."),
         ([*paths, good], "2 of 3 files were not read (xz, neither pcap nor pcapng). The link carries, both ways."),
-        ([bare, paths[0]], "1 of 2 files was not read (xz). No LACPDU is in this capture: "),
+        ([bare, paths[0]], "1 of 2 files was not read (xz). No LACPDU is in this capture. "),
     )
     for given, head in cases:
         ended = explain(*given)
