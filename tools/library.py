@@ -26,12 +26,6 @@ RUNTIME = os.path.join(TOOLS, "dist.d", "runtime")
 SONAME = "liblag.so.0"
 # The version that each function has in the library that is loaded, with the release that had it first.
 SYMBOLS = os.path.join(TOOLS, "dist.d", "debian", "liblag0.symbols")
-# What programs of release 0.1.0 call by another name: the library to load has both.
-RENAMED = {
-    "lagffi_carrier": "lagffi_active_aggregator",
-    "lagffi_offer_in_carrier": "lagffi_offer_in_active_aggregator",
-    "lagffi_offer_conversation_in_carrier": "lagffi_offer_conversation_in_active_aggregator",
-}
 # The library as one file of C, and the text that it alone shows.
 PORTABLE = os.path.join(TOP, "c", "lag.c")
 PORTABLE_SHOWS = "niw_lag_c"
@@ -59,11 +53,6 @@ def exports() -> list[str]:
     if not found:
         raise Missing(f"{HEADER} declares no function")
     return sorted(found)
-
-
-def loaded() -> list[str]:
-    """The functions that the library to load shows: those of lag.h, and the old names of some."""
-    return sorted([*exports(), *RENAMED])
 
 
 def compiler(processor: Processor) -> list[str]:
@@ -155,6 +144,5 @@ def shared(folder: str, lag: str, processor: Processor = AMD64, shows: str = "")
     made = os.path.join(folder, SONAME)
     script = version_script(folder, *([shows] if shows else []))
     words = [f"-Wl,-soname,{SONAME}", "-Wl,--build-id=sha1", f"-Wl,--version-script={script}", "-Wl,--no-undefined", "-Wl,-z,text"]
-    words += [f"-Wl,--defsym={old}={new}" for old, new in RENAMED.items()]
     printed(*compiler(processor), "-shared", "-O2", *HARDENING, *words, "-o", made, lag)
     return made

@@ -458,6 +458,12 @@ pub unsafe extern "C" fn lagffi_set_max_links(handle: *mut Lag, max_links: u16) 
     unsafe { settings::lagffi_set_max_links(Global, &mut *handle, max_links) }
 }
 
+/// `lagffi_set_in_use` of lag.h.
+#[unsafe(no_mangle)]
+pub unsafe extern "C" fn lagffi_set_in_use(handle: *mut Lag, agg: u16, in_use: bool) -> u32 {
+    unsafe { settings::lagffi_set_in_use(Global, &mut *handle, agg, in_use) }
+}
+
 /// `lagffi_views` of lag.h.
 #[unsafe(no_mangle)]
 pub unsafe extern "C" fn lagffi_views(handle: *mut Lag, views: *mut LagView, room: usize) -> LagNumber {

@@ -35,8 +35,6 @@ def stand_in() -> str:
     """A program text with each function that the library shows, which answers zeros."""
     text = re.sub(r"/\*.*?\*/", "", read_text(library.HEADER), flags=re.S)
     found = re.findall(r"^((?:struct )?\w+) (lagffi_\w+)\((.*?)\);", text, re.M | re.S)
-    new = {name: (answer, given) for answer, name, given in found}
-    found += [(new[name][0], old, new[name][1]) for old, name in library.RENAMED.items()]
     bodies = []
     for answer, name, given in found:
         names = re.findall(r"(\w+)(?:,|$)", " ".join(given.split()))

@@ -14,7 +14,6 @@ import documents
 import emulating
 import imported
 from counting import Count, ran
-from library import RENAMED
 from processors import AMD64, EMULATED, PROCESSORS, Processor, emulator
 from repository import WARNINGS, Missing, read_text, want, write_text
 
@@ -212,9 +211,9 @@ def try_programs_on_oldest(count: Count, root: str) -> None:
 
 
 def try_exports(count: Count, root: str) -> None:
-    """Both libraries show the functions of lag.h alone, the one to load old names too, and it and the programs are hardened."""
+    """Both libraries show the functions of lag.h alone, and the one to load and the programs are hardened."""
     functions = set(re.findall(r"^[\w ]+ (lagffi_\w+)\(", read_text(os.path.join(root, "include", "lag.h")), re.M))
-    for file, words, wanted in ("liblag.so.0", ["-D"], functions | {*RENAMED}), ("liblag.a", ["-g"], functions):
+    for file, words, wanted in ("liblag.so.0", ["-D"], functions), ("liblag.a", ["-g"], functions):
         told = ran(["nm", *words, "--defined-only", "--format=posix", os.path.join(root, "lib", file)]).stdout
         found = {line.split("@")[0].split(" ")[0] for line in told.split("\n") if " T " in line or " D " in line}
         count.add(f"{file} shows the {len(functions)} functions of lag.h", f"and also or not: {sorted(found ^ wanted)}" if found != wanted else "")

@@ -5,7 +5,6 @@ from __future__ import annotations
 import re
 
 from lag_h import replaced
-from library import RENAMED
 from sources import Export
 
 # The files that name the release, but for what is written by these, and what stands before its number.
@@ -23,7 +22,7 @@ def symbols(text: str, exports: list[Export], release: str) -> str:
     """The functions of the library for dpkg-gensymbols. One that is new has this release, and the version that is the release's alone."""
     versions = re.findall(r"^ (LAG_\d+)@\1 (\S+)$", text, re.M)
     kept = {line.split("@")[0].strip(): line for line in text.splitlines() if line.startswith(" lagffi_")}
-    names = sorted([*(f"lagffi_{it.name}" for it in exports), *RENAMED])
+    names = sorted(f"lagffi_{it.name}" for it in exports)
     own = next((version for version, its in versions if its == release), f"LAG_{len(versions)}")
     head = [line for line in text.splitlines() if "lagffi_" not in line]
     if (own, release) not in versions and any(name not in kept for name in names):

@@ -203,17 +203,15 @@ def test_the_page_has_what_functions_refuse_and_what_each_status_means() -> None
     assert made == text.replace("|old|\n", tables) and elsewhere.using(made, [TELL, TICK], header) == made
 
 
-def test_a_symbol_keeps_its_version_and_a_new_one_has_that_of_the_release(monkeypatch: pytest.MonkeyPatch) -> None:
-    monkeypatch.setattr(elsewhere, "RENAMED", {"lagffi_told": "lagffi_tell"})
-    old = "liblag.so.0 liblag0\n LAG_0@LAG_0 0.1.0\n lagffi_gone@LAG_0 0.1.0\n lagffi_tick@LAG_0 0.1.0\n lagffi_told@LAG_0 0.1.0\n"
+def test_a_symbol_keeps_its_version_and_a_new_one_has_that_of_the_release() -> None:
+    old = "liblag.so.0 liblag0\n LAG_0@LAG_0 0.1.0\n lagffi_gone@LAG_0 0.1.0\n lagffi_tick@LAG_0 0.1.0\n"
     made = elsewhere.symbols(old, [TELL, TICK], "0.2.0")
     head = "liblag.so.0 liblag0\n LAG_0@LAG_0 0.1.0\n LAG_1@LAG_1 0.2.0\n"
-    assert made == f"{head} lagffi_tell@LAG_1 0.2.0\n lagffi_tick@LAG_0 0.1.0\n lagffi_told@LAG_0 0.1.0\n"
+    assert made == f"{head} lagffi_tell@LAG_1 0.2.0\n lagffi_tick@LAG_0 0.1.0\n"
     assert elsewhere.symbols(made, [TELL, TICK], "0.3.0") == made
 
 
-def test_one_more_symbol_of_a_release_has_its_version(monkeypatch: pytest.MonkeyPatch) -> None:
-    monkeypatch.setattr(elsewhere, "RENAMED", {})
+def test_one_more_symbol_of_a_release_has_its_version() -> None:
     old = "liblag.so.0 liblag0\n LAG_0@LAG_0 0.1.0\n LAG_1@LAG_1 0.2.0\n lagffi_tick@LAG_0 0.1.0\n"
     assert " lagffi_tell@LAG_1 0.2.0\n" in elsewhere.symbols(old, [TELL, TICK], "0.2.0")
     assert " LAG_2@LAG_2 0.3.0\n lagffi_tell@LAG_2 0.3.0\n" in elsewhere.symbols(old, [TELL, TICK], "0.3.0")

@@ -42,11 +42,6 @@ def test_each_function_is_shown_in_its_version_and_nothing_else(tmp_path: Path, 
     assert words == ["LAG_0", "{", "global:", "lagffi_b;", "local:", "*;", "};", "LAG_1", "{", "global:", "lagffi_a;", "}", "LAG_0;"]
 
 
-def test_the_library_shows_old_names_of_functions_that_it_has() -> None:
-    assert set(library.RENAMED.values()) <= set(library.exports())
-    assert set(library.loaded()) == {*library.exports(), *library.RENAMED} and len(library.loaded()) > len(library.exports())
-
-
 def test_what_a_command_prints() -> None:
     assert library.printed("cat", given="a text\n") == "a text\n"
 
