@@ -1,5 +1,5 @@
 # lagconform in `far`, beside a bond of two links in `dev`.
-module $MODULE || exit 1
+module $MODULE || return
 cables 2
 for n in 1 2; do ip -n far link set b$n up; done
 export RUN="ip netns exec dev" LINKS="a1 a2" CLIENT=bond0 RATE=fast NIWHOPERA_LIBRARY=/mnt/liblag.so.0 PYTHONDONTWRITEBYTECODE=1

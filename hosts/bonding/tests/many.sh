@@ -1,5 +1,5 @@
 # Many bonds, many changes, and what goes away while frames come.
-module || exit 1
+module || return
 cables 3
 bond dev bond0 a1 a2 a3; bond far bond0 b1 b2 b3
 n=40

@@ -1,5 +1,5 @@
 # Memory is refused at each allocation that is made below our functions, one after the other, and for a time all of them.
-module || exit 1
+module || return
 cables 3
 F=/sys/kernel/debug/failslab
 begins() { grep "\[bonding\]" /proc/kallsyms | grep -E " [tT] ($1)" | cut -d' ' -f1 | sort | head -1; }

@@ -1,5 +1,5 @@
 # What the module does at run time, at both ends of three cables.
-module || exit 1
+module || return
 cables 3
 t=$(now)
 bond dev bond0 a1 a2; bond far bond0 b1 b2
