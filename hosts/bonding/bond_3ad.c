@@ -181,6 +181,9 @@ void bond_3ad_bind_slave(struct slave *slave)
 
 	if (port->slave == slave)
 		return;
+	if (bond->slave_cnt >= NIW_MOST_PORTS)
+		slave_err(bond->dev, slave->dev, "LACP leaves it out: a bond has %d ports at most\n",
+			  NIW_MOST_PORTS);
 	memset(port, 0, sizeof(*port));
 	memset(agg, 0, sizeof(*agg));
 	info->lacp = NULL;
@@ -352,7 +355,7 @@ int bond_3ad_get_active_agg_info(struct bonding *bond, struct ad_info *ad_info)
 	return ret;
 }
 
-/* A frame came, in softirq. One for which there is no room is dropped: a partner sends again. */
+/* A frame came, in softirq. */
 int bond_3ad_lacpdu_recv(const struct sk_buff *skb, struct bonding *bond, struct slave *slave)
 {
 	struct lacp_port *port;
@@ -372,7 +375,7 @@ int bond_3ad_lacpdu_recv(const struct sk_buff *skb, struct bonding *bond, struct
 	port = READ_ONCE(SLAVE_AD_INFO(slave)->lacp);
 	if (!port)
 		return RX_HANDLER_ANOTHER;
-	lacp_keep(port, skb);
+	lacp_keep(port, skb, *subtype);
 	lacp_wake(bond);
 	return RX_HANDLER_CONSUMED;
 }

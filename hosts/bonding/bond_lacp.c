@@ -16,6 +16,7 @@
 
 /* A bond whose work did not run for so many ms, as it was down, begins anew with all ports. */
 #define LACP_STOOD_MS 2000
+#define LACP_CHURN_TICKS 600
 
 /* Puts a port at its place by number. The numbers of slaves rise, and wrap behind 65,535. */
 static void lacp_place(struct lacp_bond *system, struct lacp_port *port, u16 number)
@@ -38,24 +39,19 @@ static void lacp_place(struct lacp_bond *system, struct lacp_port *port, u16 num
 	system->stale = true;
 }
 
-static struct lacp_port *lacp_new_port(struct lacp_bond *system, struct slave *slave)
+static void lacp_new_port(struct lacp_bond *system, struct slave *slave)
 {
 	struct lacp_port *port;
 
-	if (system->count == NIW_MOST_PORTS) {
-		net_err_ratelimited("%s: (slave %s): LACP leaves it out: a bond has %d ports at most\n",
-				    system->bond->dev->name, slave->dev->name, NIW_MOST_PORTS);
-		return NULL;
-	}
 	port = kzalloc(sizeof(*port), GFP_KERNEL);
-	if (port) {
-		spin_lock_init(&port->lock);
-		port->slave = slave;
-		port->system = system;
-		lacp_place(system, port, SLAVE_AD_INFO(slave)->id);
-		WRITE_ONCE(SLAVE_AD_INFO(slave)->lacp, port);
-	}
-	return port;
+	if (!port)
+		return;
+	spin_lock_init(&port->lock);
+	port->slave = slave;
+	port->system = system;
+	lacp_place(system, port, SLAVE_AD_INFO(slave)->id);
+	/* a frame that comes finds the whole of it */
+	smp_store_release(&SLAVE_AD_INFO(slave)->lacp, port);
 }
 
 /* Gives each slave that has none a port. With RTNL no slave is half enslaved, and none leaves. */
@@ -72,7 +68,8 @@ static struct lacp_bond *lacp_adopt(struct bonding *bond, struct lacp_bond *syst
 		system->bond = bond;
 	}
 	bond_for_each_slave(bond, slave, iter)
-		if (!SLAVE_AD_INFO(slave)->lacp && SLAVE_AD_INFO(slave)->port.slave == slave)
+		if (!SLAVE_AD_INFO(slave)->lacp && SLAVE_AD_INFO(slave)->port.slave == slave &&
+		    system->count < NIW_MOST_PORTS)
 			lacp_new_port(system, slave);
 	if (!system->count) {
 		kvfree(system);
@@ -99,6 +96,7 @@ struct lacp_bond *lacp_system_of(struct bonding *bond, bool *waits)
 			lacks |= READ_ONCE(SLAVE_AD_INFO(slave)->port.slave) == slave;
 	}
 	rcu_read_unlock();
+	lacks &= !system || system->count < NIW_MOST_PORTS;
 	*waits = lacks && !rtnl_trylock();
 	if (lacks && !*waits) {
 		system = lacp_adopt(bond, system);
@@ -328,7 +326,7 @@ static void lacp_settle(struct lacp_bond *system, s64 now)
 	lacp_remake(system, now);
 }
 
-/* Lets the time pass that passed. */
+/* Lets the time pass that passed. A churn machine is at its end after LACP_CHURN_TICKS. */
 static void lacp_pass(struct lacp_bond *system, s64 now)
 {
 	s64 was = system->end.ticked, ticks;
@@ -340,7 +338,8 @@ static void lacp_pass(struct lacp_bond *system, s64 now)
 	if (system->end.ticked == was)
 		return;
 	lacp_read_views(system);
-	for (ticks = (system->end.ticked - was) / NIW_TICK_MILLISECONDS; ticks > 0; ticks--)
+	ticks = (system->end.ticked - was) / NIW_TICK_MILLISECONDS;
+	for (ticks = min_t(s64, ticks, LACP_CHURN_TICKS); ticks > 0; ticks--)
 		for (i = 0; i < system->placed; i++) {
 			struct lacp_port *port = system->keys[i];
 

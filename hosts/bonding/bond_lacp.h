@@ -88,7 +88,7 @@ void niw_host_free(void *at);
 void lacp_send_due(struct lacp_port *port, s64 now);
 void lacp_send_all(struct lacp_bond *system);
 void lacp_take_all(struct lacp_bond *system, s64 now);
-bool lacp_keep(struct lacp_port *port, const struct sk_buff *skb);
+void lacp_keep(struct lacp_port *port, const struct sk_buff *skb, u8 subtype);
 
 /* Of bond_lacp.c. */
 struct lacp_bond *lacp_system_of(struct bonding *bond, bool *waits);

@@ -144,15 +144,17 @@ void lacp_take_all(struct lacp_bond *system, s64 now)
 		lacp_take_waiting(system->ports[i], now);
 }
 
-/* Keeps a frame that came for the next turn, in softirq. Returns false if there is no room. */
-bool lacp_keep(struct lacp_port *port, const struct sk_buff *skb)
+/*
+ * Keeps a frame that came for the next turn, in softirq. One for which there is no room is dropped,
+ * and a partner sends again. Markers leave half of the room to LACPDUs.
+ */
+void lacp_keep(struct lacp_port *port, const struct sk_buff *skb, u8 subtype)
 {
 	unsigned int kept = min_t(unsigned int, skb->len, LACP_KEPT - ETH_HLEN);
-	bool room;
+	unsigned int room = subtype == AD_TYPE_LACPDU ? LACP_WAITING : LACP_WAITING / 2;
 
 	spin_lock(&port->lock);
-	room = port->waiting < LACP_WAITING;
-	if (room) {
+	if (port->waiting < room) {
 		u16 at = (port->first + port->waiting) % LACP_WAITING;
 		struct lacp_frame *frame = &port->frames[at];
 
@@ -162,5 +164,4 @@ bool lacp_keep(struct lacp_port *port, const struct sk_buff *skb)
 			port->waiting++;
 	}
 	spin_unlock(&port->lock);
-	return room;
 }
