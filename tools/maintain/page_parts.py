@@ -187,10 +187,8 @@ def of_runs() -> str:
 def of_lagtool() -> str:
     """The lines of lagtool and its options, as its help has them."""
     sys.path.insert(0, os.path.join(TOP, "tools", "lagtool.d"))
-    import usage
-
+    told = importlib.import_module("usage").text("lagtool")
     sys.path.pop(0)
-    told = usage.text("lagtool")
     rows = re.findall(r"^  (lagtool .*?)  (.*)$", told, re.M) + re.findall(r"^  (--[\w-]+) +(.*)$", told, re.M)
     return table(["line", "does"], [[f"`{line}`", does] for line, does in rows])
 
