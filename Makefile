@@ -1,14 +1,17 @@
-# Builds, from a clone, with a C compiler and Python alone:
+# Builds, from a clone, with a C compiler and Python alone, or with cargo beside them:
 #
 #     make          the C library, the programs of examples/c, and the daemon where what it wants is here
 #     make check    runs the tests that want no toolchain: 'N passed, M failed'
 #     make install  as root: the daemon, its unit, its user and the examples of its files, below PREFIX, /usr/local; `make uninstall` takes them away
+#     make rust     out/rust, which cargo builds: `make` and cargo write it themselves, this is for an editor that looks before
 #     make clean
 #
 # out/lib has lag.h, liblag.a and liblag.so.0, which Python takes from there; out/bin has the programs. LAG_FOLDER names a folder that has these files of
-# the library, as tools/library makes them, proved and native: it is taken then, and so is that of the package liblag-dev, if its lag.h is this one. Else the
-# library is that of c/lag.c (docs/ASSURANCE.md). CC and CFLAGS are those of make.
+# the library, as tools/library makes them, proved and native: it is taken then, and so is that of the package liblag-dev, if its lag.h is this one. Else
+# cargo builds it of the proved sources, where a cargo is here that Cargo.toml fits and that builds for the processor of CC, and CARGO= is not given; else it is
+# that of c/lag.c (docs/ASSURANCE.md). The line of tools/library says which. CC and CFLAGS are those of make.
 CC ?= cc
+CARGO ?= cargo
 CFLAGS ?= -O2
 PYTHON ?= python3
 PKG_CONFIG ?= pkg-config
@@ -24,6 +27,10 @@ ifneq ($(packaged),)
 LAG_FOLDER := $(shell cmp -s $(packaged_header)/lag.h $(HEADER) && echo $(packaged))
 endif
 endif
+ifndef LAG_FOLDER
+# The words of the cargo that builds the library; none where c/lag.c is taken.
+by_cargo := $(shell CC="$(CC)" CARGO="$(CARGO)" $(PYTHON) -B tools/stock.py 2>/dev/null)
+endif
 has = $(shell $(PKG_CONFIG) --exists $(1) 2>/dev/null && echo $(1))
 daemon := $(if $(filter 6,$(words $(call has,inih) $(call has,libmnl) $(call has,libcap-ng) $(call has,libbpf) $(shell command -v clang) \
 	$(shell PATH=$$PATH:/usr/sbin command -v bpftool))),daemon,no-daemon)
@@ -38,13 +45,17 @@ out/lib/liblag.so.0: $(LAG_FOLDER)/liblag.so.0 $(LAG_FOLDER)/liblag.a $(HEADER) 
 	cp $(HEADER) $(LAG_FOLDER)/liblag.a out/lib/
 	cp $(LAG_FOLDER)/liblag.so.0 out/lib/liblag.so.new && mv out/lib/liblag.so.new out/lib/liblag.so
 	cp $(LAG_FOLDER)/liblag.so.0 $@.new && mv $@.new $@
+else ifneq ($(by_cargo),)
+# Cargo looks what has changed; a library that is as it was stays.
+out/lib/liblag.so.0: out/lib/taken-from FORCE
+	@CC="$(CC)" CARGO="$(CARGO)" $(PYTHON) tools/library --from-rust out/lib
 else
 out/lib/liblag.so.0: c/lag.c $(HEADER) tools/library tools/library.py out/lib/taken-from
 	CC="$(CC)" CFLAGS="$(CFLAGS)" $(PYTHON) tools/library --from-c out/lib
 endif
 
 # What the library is of: the folder that it is taken from, or a compiler and its words. Another one makes it anew.
-made_of := $(or $(LAG_FOLDER),$(CC) $(CFLAGS))
+made_of := $(or $(LAG_FOLDER),$(by_cargo),$(CC) $(CFLAGS))
 out/lib/taken-from: FORCE
 	@mkdir -p out/lib; echo "$(made_of)" | cmp -s - $@ || echo "$(made_of)" > $@
 
@@ -97,7 +108,10 @@ endif
 uninstall:
 	rm -rf $(DESTDIR)$(PREFIX)/sbin/lagd $(UNIT) $(USERS) $(DESTDIR)$(PREFIX)/share/doc/lagd
 
-clean:
-	rm -rf out/lib out/bin lagd/out
+rust:
+	$(CARGO) run --quiet --offline --package eraser
 
-.PHONY: FORCE all library examples daemon no-daemon check install uninstall clean
+clean:
+	rm -rf out/lib out/bin out/rust target lagd/out
+
+.PHONY: FORCE all library rust examples daemon no-daemon check install uninstall clean

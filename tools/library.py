@@ -108,7 +108,7 @@ def by_cargo(folder: str, *words: str, profile: str = "release", shows: Sequence
         raise Missing(why)
     want("ld", "objcopy")
     stock.make_ready()
-    printed("cargo", "build", "--quiet", stock.OFFLINE, "--package", "lagffi", "--profile", profile, *words, cwd=TOP)
+    printed(stock.CARGO, "build", "--quiet", stock.OFFLINE, "--package", "lagffi", "--profile", profile, *words, cwd=TOP)
     made, kept, names = os.path.join(folder, "lag.o"), os.path.join(folder, "exports"), [*exports(), RUST_SHOWS, *shows]
     write_text(kept, "\n".join(names) + "\n")
     # What the exports reach, and no more.

@@ -10,8 +10,8 @@ from ._numbers import VERSION_TEXT, Functions
 
 # The name by which the dynamic linker finds the library; the variable NIWHOPERA_LIBRARY names another file.
 SONAME = "liblag.so.0"
-# What the library of c/lag.c shows, and the native one does not.
-PORTABLE = "niw_lag_c"
+# What the libraries of c/lag.c and by cargo show, and the native one does not.
+MARKS = "niw_lag_c", "niw_lag_rust"
 
 
 def _name() -> str:
@@ -40,12 +40,13 @@ def functions() -> Functions:
 
 
 def library_text() -> str:
-    """Which library runs: the native one, or that of c/lag.c; or why none does."""
+    """Which library runs: the native one, that of c/lag.c or that by cargo; or why none does."""
     try:
         library = _loaded()
     except ImportError as why:
         return f"without liblag: {why}"
-    if not hasattr(library, PORTABLE):
+    mark = next((it for it in MARKS if hasattr(library, it)), None)
+    if mark is None:
         return f"with native liblag, {_name()}, for lag.h of {VERSION_TEXT}"
-    text = ctypes.string_at(ctypes.addressof(ctypes.c_char.in_dll(library, PORTABLE))).decode()
+    text = ctypes.string_at(ctypes.addressof(ctypes.c_char.in_dll(library, mark))).decode()
     return f"with liblag of {text.partition(' ')[0]}, {_name()}, {text.partition(' ')[2]}"

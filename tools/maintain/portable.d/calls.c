@@ -1,5 +1,5 @@
 /* Random calls of every function of lag.h on two systems with cables, a third one and queues, and a hash of all that they answer, write and ask of
- * malloc: equal in each build of the library. calls.h has a function that mixes each struct, and a call of each function; it is written from the
+ * malloc: equal in each build of the library, but for one by rustc how much it asks for. calls.h has a function that mixes each struct, and a call of each function; it is written from the
  * sources of the interface.
  *
  *     calls COUNT [granted]
@@ -15,6 +15,8 @@
 enum { SYSTEMS = 3, QUEUES = 2, PORTS = 6, LIST = 4096, MANY = 96 };
 
 static uint64_t state = 88172645463325252u, hash = 14695981039346656037u;
+/* The same without how many octets are asked of malloc: rustc orders the fields of a struct as it likes. */
+static uint64_t without_sizes = 14695981039346656037u;
 static struct niw_system systems[SYSTEMS] = {NIW_EMPTY, NIW_EMPTY, NIW_EMPTY};
 static struct niw_queue queues[QUEUES] = {NIW_EMPTY, NIW_EMPTY};
 static struct niw_churn churns[2];
@@ -48,20 +50,31 @@ static uint32_t any(uint32_t below) {
 
 static bool seldom(uint32_t once_in) { return any(once_in) == 0; }
 
+static uint64_t mixed(uint64_t with, uint64_t value) {
+    for (int at = 0; at < 64; at += 8) with = (with ^ (uint8_t)(value >> at)) * 1099511628211u;
+    return with;
+}
+
+static void mix_one(uint64_t value) {
+    hash = (hash ^ value) * 1099511628211u;
+    without_sizes = (without_sizes ^ value) * 1099511628211u;
+}
+
 static void mix(uint64_t value) {
-    for (int at = 0; at < 64; at += 8) hash = (hash ^ (uint8_t)(value >> at)) * 1099511628211u;
+    hash = mixed(hash, value);
+    without_sizes = mixed(without_sizes, value);
 }
 
 static void mix_octets(const uint8_t *from, size_t count) {
-    for (size_t at = 0; at < count; at++) hash = (hash ^ from[at]) * 1099511628211u;
+    for (size_t at = 0; at < count; at++) mix_one(from[at]);
 }
 
 static void mix_numbers(const uint16_t *from, size_t count) {
-    for (size_t at = 0; at < count; at++) hash = (hash ^ from[at]) * 1099511628211u;
+    for (size_t at = 0; at < count; at++) mix_one(from[at]);
 }
 
 static void mix_flags(const bool *from, size_t count) {
-    for (size_t at = 0; at < count; at++) hash = (hash ^ from[at]) * 1099511628211u;
+    for (size_t at = 0; at < count; at++) mix_one(from[at]);
 }
 
 void *__real_malloc(size_t size);
@@ -74,7 +87,8 @@ static void refuse(bool has_short_lists) { granted = has_short_lists && !is_gran
 
 static bool is_refused(size_t size) {
     if (granted < 0) return false;
-    mix(size);
+    hash = mixed(hash, size);
+    without_sizes = mixed(without_sizes, 1);
     return granted-- == 0;
 }
 
@@ -233,6 +247,7 @@ int main(int argc, char **argv) {
     }
     for (int which = 0; which < SYSTEMS; which++) mix(niw_free(&systems[which]));
     for (int which = 0; which < QUEUES; which++) mix(niw_queue_free(&queues[which]));
-    printf("%lu calls%s, %lu frames, %08lx%08lx\n", count, is_granted ? " with all memory" : "", sent, (unsigned long)(hash >> 32), (unsigned long)(hash & 0xffffffffu));
+    printf("%lu calls%s, %lu frames, %08lx%08lx", count, is_granted ? " with all memory" : "", sent, (unsigned long)(hash >> 32), (unsigned long)(hash & 0xffffffffu));
+    printf(", without sizes %08lx%08lx\n", (unsigned long)(without_sizes >> 32), (unsigned long)(without_sizes & 0xffffffffu));
     return 0;
 }
