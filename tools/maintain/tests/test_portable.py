@@ -27,3 +27,16 @@ def test_a_parameter_without_values_is_refused() -> None:
     strange = writing.Export("strange", [], [], "uint32_t", [writing.Field("uint16_t", "colour")])
     with pytest.raises(Missing, match="no values for the parameter colour of lagffi_strange"):
         writing.header(structs, [strange])
+
+
+def test_a_build_by_cargo_is_compared_without_sizes() -> None:
+    program = loading.program("portable")
+    kept = "20000 calls, 9120 frames, cb8ee08436e4b32b"
+    told = [f"{kept}, without sizes 0123456789abcdef", "20000 calls, 9120 frames, ffffffffffffffff, without sizes 0123456789abcdef"]
+    wanted = [program.with_second(kept, told)]
+    assert wanted == told[:1]
+    assert program.with_second(kept, told[1:]) == kept
+    of_c, of_cargo = program.Build("gcc", ["cc"]), program.Build("cargo", ["cc"], sizes=False)
+    assert of_c.prints([""], wanted) == told[:1] != told[1:]
+    assert of_cargo.prints([""], wanted) == [of_cargo.told(told[1])]
+    assert of_cargo.prints([""], wanted) != [of_cargo.told(told[1].replace("0123", "0124"))]
