@@ -120,7 +120,7 @@ def of_messages() -> str:
 
 def of_rules() -> str:
     """The rules of findings."""
-    rows = re.findall(rf"number: (\d+),\s+name: {TEXT},\s+clause: {TEXT},\s+advice: {TEXT},", source(RULES))
+    rows = re.findall(rf"number: (\d+),(?:\s+kind: [^,]*,\s+rank: \d+,)?\s+name: {TEXT},\s+clause: {TEXT},\s+advice: {TEXT},", source(RULES))
     return table(["rule", "finding", "section", "advice"], [[*it[:3], it[3].replace('\\"', '"')] for it in rows])
 
 
