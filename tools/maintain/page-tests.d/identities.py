@@ -120,7 +120,8 @@ def of_one_direction(tests: Tests, folder: str) -> None:
 def of_quiet_interface(tests: Tests, folder: str) -> None:
     """An interface of a capture without an LACPDU counts as a file without one does; loopback does not."""
     path, link = os.path.join(folder, "quiet.pcapng"), seen(bundle(1, 10, 2, 5, [(1, 1)]))[0]
-    for what, packets in ("with other frames", made.arps(30)), ("without a packet", []):
+    quiet: dict[str, made.Packets] = {"with other frames": made.arps(30), "without a packet": []}
+    for what, packets in quiet.items():
         status, text = told(path, [link, packets], ["eth1", "eth2"])
         tests.same(f"an interface {what}", [status, text.partition(":")[0]], [1, "1 of 2 links carries. No LACPDU is on the interface eth2"])
     tests.same("loopback is no link", told(path, [link, made.arps(3)], ["eth1", "lo"])[1].startswith("The link carries, both ways."), True)
