@@ -259,7 +259,7 @@ module _ (key : Key) (hears : ℕ → Option Party) (n : ℕ) where
       kind_freed : (o : Option Party) (p : Machines) → p.enabled ≡ false → Kind key t w o p → Kind key t w o (record p { choice = Unselected })
       kind_freed None p down a = a
       kind_freed (Some who) p down a = (λ f. absurd (no (sym f)), inl down)
-  others_set t w (Setting.Set_in_use agg now) u = λ m p a other. subst (Kind key t w (hears m)) (sym (used_port agg now p u)) (a other)
+  others_set t w l (Setting.Set_in_use agg now) u = λ m p a other. subst (Kind key t w (hears m)) (sym (used_port agg now p u)) (a other)
 
   -- none of them begins
 

@@ -178,15 +178,6 @@ moded Defaulted n b a = a
 moded Initialize n b a = a
 moded PortDisabled n b a = a
 
--- current_while of a port with another mode
-moded : (r : ReceiveState) (n : ℕ) (b : Bool) → n ≤ most_current_while r → (if same_receive_state Current r && b then 900 else n) ≤ most_current_while r
-moded Current n true a = omega arith
-moded Current n false a = a
-moded Expired n b a = a
-moded Defaulted n b a = a
-moded Initialize n b a = a
-moded PortDisabled n b a = a
-
 pub setting_timed : EachSettingKeepsTimed
 setting_timed = setting_each TimedAt timed_settles (λ n p choice a. a)
         (λ n p active short a. (moded p.receive p.current_while (p.short && not short) a.0, a.1, a.2, a.3))
