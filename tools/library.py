@@ -96,8 +96,9 @@ def one_object(folder: str, parts: list[str], processor: Processor = AMD64) -> s
 def portable(folder: str, *words: str, processor: Processor = AMD64) -> str:
     """The same object, lag.o, of c/lag.c: it wants a C compiler alone."""
     made = os.path.join(folder, "lag.o")
-    # As the native one it imports what docs/USING.md lists, and no more.
-    printed(*compiler(processor), "-O2", "-fPIC", "-fno-stack-protector", "-U_FORTIFY_SOURCE", *words, f"-I{os.path.dirname(HEADER)}", "-c", "-o", made, PORTABLE)
+    # As the native one it imports what docs/USING.md lists, and no more; a section for each function, so that a linker drops what nobody calls.
+    words = ("-O2", "-fPIC", "-fno-stack-protector", "-U_FORTIFY_SOURCE", "-ffunction-sections", "-fdata-sections", *words)
+    printed(*compiler(processor), *words, f"-I{os.path.dirname(HEADER)}", "-c", "-o", made, PORTABLE)
     return made
 
 
