@@ -54,8 +54,8 @@ void free(void *at);
 #define TURN64 __builtin_bswap64
 #define ARRAY(name, octets) u8 name[octets] __attribute__((aligned(16)))
 #define LOADED(bits) typedef u##bits its##bits __attribute__((may_alias));
-#define LOAD(bits) u##bits value = *(const its##bits *)(uintptr_t)at
-#define STORE(bits) *(its##bits *)(uintptr_t)at = value
+#define LOAD(bits) u##bits value = *(const its##bits *)at
+#define STORE(bits) *(its##bits *)at = value
 #else
 #define INLINE static inline
 #define COPY memcpy
@@ -65,18 +65,25 @@ void free(void *at);
 #define TURN64(it) ((u64)TURN32((u32)(it)) << 32 | TURN32((u32)((it) >> 32)))
 #define ARRAY(name, octets) _Alignas(16) u8 name[octets]
 #define LOADED(bits)
-#define LOAD(bits) u##bits value; COPY(&value, P(at), bits / 8)
-#define STORE(bits) COPY(P(at), &value, bits / 8)
+#define LOAD(bits) u##bits value; COPY(&value, at, bits / 8)
+#define STORE(bits) COPY(at, &value, bits / 8)
 #endif
 
-INLINE u32 ld8(u64 at) { return *(const u8 *)(uintptr_t)at; }
-INLINE void st8(u64 at, u8 value) { *(u8 *)(uintptr_t)at = value; }
+/* Those with `_in` are given a place in an array of the function, so that a compiler sees what else may change it. */
+INLINE u32 ld8_in(const void *at) { return *(const u8 *)at; }
+INLINE void st8_in(void *at, u8 value) { *(u8 *)at = value; }
+INLINE u32 ld8(u64 at) { return ld8_in(P(at)); }
+INLINE void st8(u64 at, u8 value) { st8_in(P(at), value); }
 #define NUMBERS(bits, told) \
     LOADED(bits) \
-    INLINE told ld##bits(u64 at) { LOAD(bits); return IS_BIG ? TURN##bits(value) : value; } \
-    INLINE told ud##bits(u64 at) { u##bits value; COPY(&value, P(at), bits / 8); return IS_BIG ? TURN##bits(value) : value; } \
-    INLINE void st##bits(u64 at, u##bits value) { if (IS_BIG) value = TURN##bits(value); STORE(bits); } \
-    INLINE void us##bits(u64 at, u##bits value) { if (IS_BIG) value = TURN##bits(value); COPY(P(at), &value, bits / 8); }
+    INLINE told ld##bits##_in(const void *at) { LOAD(bits); return IS_BIG ? TURN##bits(value) : value; } \
+    INLINE told ud##bits##_in(const void *at) { u##bits value; COPY(&value, at, bits / 8); return IS_BIG ? TURN##bits(value) : value; } \
+    INLINE void st##bits##_in(void *at, u##bits value) { if (IS_BIG) value = TURN##bits(value); STORE(bits); } \
+    INLINE void us##bits##_in(void *at, u##bits value) { if (IS_BIG) value = TURN##bits(value); COPY(at, &value, bits / 8); } \
+    INLINE told ld##bits(u64 at) { return ld##bits##_in(P(at)); } \
+    INLINE told ud##bits(u64 at) { return ud##bits##_in(P(at)); } \
+    INLINE void st##bits(u64 at, u##bits value) { st##bits##_in(P(at), value); } \
+    INLINE void us##bits(u64 at, u##bits value) { us##bits##_in(P(at), value); }
 NUMBERS(16, u32)
 NUMBERS(32, u32)
 NUMBERS(64, u64)

@@ -27,13 +27,15 @@ LOADS = {0x28: ("u32", 32, False), 0x29: ("u64", 64, False), 0x2C: ("u32", 8, Tr
          0x34: ("u64", 32, True), 0x35: ("u64", 32, False)}
 STORES = {0x36: ("u32", 32), 0x37: ("u64", 64), 0x3A: ("u32", 8), 0x3B: ("u32", 16), 0x3C: ("u64", 8), 0x3D: ("u64", 16), 0x3E: ("u64", 32)}
 EXTENDED = {0xC0: ("u32", 8), 0xC1: ("u32", 16), 0xC2: ("u64", 8), 0xC3: ("u64", 16), 0xC4: ("u64", 32)}
+# No function has so large an array.
+MOST_OF_ARRAY = 1 << 20
 # What the library asks of the program that it is in.
 FROM_OUTSIDE = ("rattle_alloc", "rattle_realloc", "rattle_dealloc")
 
 
 class Value(NamedTuple):
     """An expression: its text, its type, whether it has operators, which variables it reads, whether it reads memory, whether it is a
-    condition, an int of 0 or 1, and its number if it is a constant."""
+    condition, an int of 0 or 1, its number if it is a constant, and its place in the function's array if it is the address of one."""
 
     text: str
     kind: str
@@ -42,6 +44,7 @@ class Value(NamedTuple):
     is_loaded: bool = False
     is_condition: bool = False
     number: int | None = None
+    place: int | None = None
 
     @property
     def plain(self) -> str:
@@ -71,6 +74,25 @@ def of_number(value: int, kind: str) -> Value:
     return Value(text, kind, number=value)
 
 
+def of_place(place: int) -> Value:
+    """The address of a place in the function's array."""
+    return Value(f"AT({in_array(place)})", "u64", place=place)
+
+
+def in_array(place: int) -> str:
+    return f"frame + {place}" if place else "frame"
+
+
+def pointer(it: Value) -> str:
+    """An address as a pointer: the array is named, so that a compiler sees what may change it."""
+    return in_array(it.place) if it.place is not None else f"P({it.plain})"
+
+
+def accessed(word: str, bits: int, it: Value) -> tuple[str, str]:
+    """The function that loads or stores at an address, and what it is given."""
+    return (f"{word}{bits}_in", in_array(it.place)) if it.place is not None else (f"{word}{bits}", it.plain)
+
+
 def signed(it: Value) -> str:
     return f"(s{it.kind[1:]}){it.operand}"
 
@@ -93,6 +115,8 @@ def cast(text: str, kind: str, *parts: Value) -> Value:
 def computed(word: str, left: Value, right: Value) -> Value:
     """What an operator of two numbers gives."""
     kind, bits = left.kind, int(left.kind[1:])
+    if word == "+" and left.place is not None and right.number is not None and right.number < MOST_OF_ARRAY:
+        return of_place(left.place + right.number)
     if word.startswith("rot"):
         return called(f"{word}{bits}({left.plain}, {right.plain})", kind, left, right)
     if word.endswith("s"):
@@ -124,7 +148,8 @@ def is_zero(it: Value) -> Value:
 def loaded(code: int, hint: int, offset: int, at: Value) -> Value:
     kind, bits, has_sign = LOADS[code]
     place = computed("+", at, of_number(offset, "u64")) if offset else at
-    text = f"{'ld' if 1 << hint >= bits // 8 else 'ud'}{bits}({place.plain})"
+    name, given = accessed("ld" if 1 << hint >= bits // 8 else "ud", bits, place)
+    text = f"{name}({given})"
     if has_sign:
         text = f"({kind})(s{kind[1:]})(s{bits}){text}"
     elif kind == "u64" and bits < 64:
@@ -172,7 +197,15 @@ class Writer:
         self.lines: list[str] = []
         self.declared: list[tuple[str, str]] = []
         self.used: set[int] = set()
+        self.array = self.array_only()
         self.labels = self.depth = self.at = 0
+
+    def array_only(self) -> int:
+        """The variable that is the address of the function's array, and nothing else; -1 if there is none."""
+        named = [self.found[at + 1].words[0] for at, it in enumerate(self.found[:-1])
+                 if it.code == GLOBAL_GET and self.module.globals[it.words[0]] == "__stack_pointer" and self.found[at + 1].code in (SET, TEE)]
+        written = [it.words[0] for it in self.found if it.code in (SET, TEE)]
+        return named[0] if len(named) == 1 and written.count(named[0]) == 1 else -1
 
     def say(self, line: str) -> None:
         self.lines.append("\t" * (self.depth + 1) + line)
@@ -188,17 +221,21 @@ class Writer:
     def settle(self, *, memory: bool = False, variable: int = -1, all_of: bool = False) -> None:
         """Computes what is on the stack, and would change."""
         for place, it in enumerate(self.stack):
-            if it.number is None and (all_of or memory and it.is_loaded or variable in it.reads) and not re.fullmatch(r"t\d+", it.text):
+            if it.number is None and it.place is None and (all_of or memory and it.is_loaded or variable in it.reads) and not re.fullmatch(r"t\d+", it.text):
                 name = self.variable(it.kind)
                 self.say(f"{name} = {it.plain};")
                 self.stack[place] = Value(name, it.kind)
 
     def assign(self, which: int, text: str) -> None:
         self.settle(variable=which)
+        if which == self.array:
+            return
         if text != f"l{which}":
             self.say(f"l{which} = {text};")
 
     def local(self, which: int) -> Value:
+        if which == self.array:
+            return of_place(0)
         return Value(f"l{which}", self.kinds[which], reads=frozenset({which}))
 
     def leave(self, depth: int) -> str:
@@ -316,7 +353,7 @@ class Writer:
                 self.stack.append(self.local(words[0]))
         elif code == GLOBAL_GET:
             if self.module.globals[words[0]] == "__stack_pointer":
-                self.stack.append(Value("AT(frame)", "u64"))
+                self.stack.append(of_place(0))
             elif self.module.globals[words[0]] == "__memory_base":
                 self.stack.append(Value("AT(data)", "u64"))
             else:
@@ -334,15 +371,16 @@ class Writer:
         if code in (COPY, FILL):
             length, value, to = self.pop(), self.pop(), self.pop()
             self.settle(memory=True)
-            what = f"P({value.plain})" if code == COPY else f"(int)({value.operand} & 255u)"
-            self.say(f"{'memmove' if code == COPY else 'memset'}(P({to.plain}), {what}, (size_t){length.operand});")
+            what = pointer(value) if code == COPY else f"(int)({value.operand} & 255u)"
+            self.say(f"{'memmove' if code == COPY else 'memset'}({pointer(to)}, {what}, (size_t){length.operand});")
             return
         value, at = self.pop(), self.pop()
         kind, bits = STORES[code]
         place = computed("+", at, of_number(words[1], "u64")) if words[1] else at
         self.settle(memory=True)
         narrow = value.plain if int(kind[1:]) == bits else f"(u{bits}){value.operand}"
-        self.say(f"{'st' if 1 << words[0] >= bits // 8 else 'us'}{bits}({place.plain}, {narrow});")
+        name, given = accessed("st" if 1 << words[0] >= bits // 8 else "us", bits, place)
+        self.say(f"{name}({given}, {narrow});")
 
     def expression(self, code: int) -> Value:
         if code in EXTENDED:
@@ -392,6 +430,9 @@ class Writer:
             elif is_reached:
                 self.step(code, words)
             self.at += 1
+        beyond = [it for line in self.lines for it in re.findall(r"\bframe \+ (\d+)", line) if int(it) > self.size]
+        if beyond:
+            raise Missing(f"{self.name} has an address behind its array")
         return "\n".join([f"{head(self.module, self.name, self.function.kind, True)} {{", *self.variables(), *self.lines, "}"]) + "\n"
 
     def variables(self) -> list[str]:
