@@ -1,13 +1,17 @@
 -- Each setting has an answer.
 use Rattle.std.proofs.Common.{Bool, Err, None, Ok, Option, Result, Some, false, inl, inr, refl, slice_set, subst, sym, true, ℕ, ◌≡◌}
 use Rattle.portmachines.specs.Calls.{with_mode}
+use Rattle.lagtypes.specs.declared.identifiers.AggId.{AggId}
 use Rattle.portmachines.specs.Machines.{Machines}
+use Rattle.selection.specs.Limits.{with_use}
 use Rattle.lagsystem.specs.declared.fault.SystemFault.{SystemFault}
-use Rattle.lagsystem.specs.declared.fault.SystemFault.TheVariants.{NoPort}
+use Rattle.lagsystem.specs.declared.fault.SystemFault.TheVariants.{NoAggregator, NoPort}
 use Rattle.lagsystem.specs.declared.system_ports.SystemPort.{SystemPort}
 use Rattle.lagsystem.specs.Calls.{choice_with_link}
-use Rattle.lagsystem.specs.Settings.{Hold_port, LimitsLinks, OnlyPortBecomes, Set_max_delay, Set_max_links, Set_mode, SetsPort, Setting, SettingStep}
-use Rattle.lagsystem.specs.Settings.{in_mode, is_held_so, is_in_mode, limit_refusal, with_held}
+use Rattle.lagsystem.specs.Offers.{has_aggregator}
+use Rattle.lagsystem.specs.Settings.{Hold_port, LimitsLinks, OnlyPortBecomes, Set_in_use, Set_max_delay, Set_max_links, Set_mode, SetsPort, Setting}
+use Rattle.lagsystem.specs.Settings.{SettingStep, in_mode, is_held_so, is_in_mode, limit_refusal, with_held}
+use Rattle.lagsystem.specs.Uses.{PutsInUse, choice_with_use}
 use Rattle.lagsystem.specs.State.{SystemState, port_index, with_system_ports}
 use Rattle.lagsystem.proofs.SettingsKeep.{setting_promise, setting_sound}
 use Rattle.law_answers.specs.Answers.{EachSettingHasAnAnswer}
@@ -66,6 +70,28 @@ limits old most fits None e =
     (with_ports_fit limited ports.0 old.table limited_fits (ports.2 fits.system_ports)) in
     (Ok tt, done.0, (e, done.1), done.2)
 
+-- an aggregator put in use, or out of use
+uses_ports : (agg : AggId) (now : Bool) (p q : Machines) → q ≡ record p { choice = choice_with_use agg now p.choice } → KeepsFit p q
+uses_ports agg now p q e h = subst (KeepsFit p) (sym e) (kept p (record p { choice = choice_with_use agg now p.choice }) refl refl) h
+
+uses : (old : SystemState) (agg : AggId) (now : Bool) → NumbersFit old → (there : Bool) → has_aggregator old agg ≡ there
+    → (answer : Result Unit SystemFault) × (new : SystemState) × SettingStep old (Set_in_use agg now) answer new × NumbersFit new
+uses old agg now fits false e = (Err NoAggregator, old, (e, refl, refl), fits)
+uses old agg now fits true e =
+    let ports = each_changes (λ p q. q ≡ record p { choice = choice_with_use agg now p.choice })
+    (λ p. (record p { choice = choice_with_use agg now p.choice }, refl)) (uses_ports agg now) old.system_ports in
+    let used : SystemState = record old { in_use = with_use old.keys agg now old.in_use } in
+    let used_fits : NumbersFit used = record {
+      address = fits.address;
+      priority = fits.priority;
+      max_delay = fits.max_delay;
+      ports = fits.ports;
+      system_ports = fits.system_ports;
+    } in
+    let done = settled (PutsInUse agg now) old (with_system_ports used ports.0) (ports.1, refl)
+    (with_ports_fit used ports.0 old.table used_fits (ports.2 fits.system_ports)) in
+    (Ok tt, done.0, (e, done.1), done.2)
+
 finds_setting : (old : SystemState) (setting : Setting) → NumbersFit old → SettingFits setting
     → (answer : Result Unit SystemFault) × (new : SystemState) × SettingStep old setting answer new × NumbersFit new
 finds_setting old (Hold_port n held) fits h = elim (by_number n old.system_ports) [
@@ -89,6 +115,7 @@ finds_setting old (Set_max_delay max_delay) fits h = (
   },
 )
 finds_setting old (Set_max_links most) fits h = limits old most fits (limit_refusal most old.system_ports) refl
+finds_setting old (Set_in_use agg now) fits h = uses old agg now fits (has_aggregator old agg) refl
 
 pub each_setting : EachSettingHasAnAnswer
 each_setting old setting sound fits h = let x = finds_setting old setting fits h in record {

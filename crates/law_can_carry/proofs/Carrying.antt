@@ -85,6 +85,7 @@ system id m = record {
   conversations = 256;
   keys = key₁ ∷ [];
   max_links = None;
+  in_use = true ∷ [];
   ports = config ∷ [];
   system_ports = port_with m ∷ [];
   table = first_table 1 256 1;
@@ -203,7 +204,7 @@ no_older = record {
 -- a settling, by what the machines do
 
 pub settles_from : (id : SystemId) (a b c d e : Machines) → RunsToRest (mux_rows false) a b
-    → ChoosesIn (record { keys = key₁ ∷ []; max_links = None }) (port_with b ∷ []) (port_with c ∷ [])
+    → ChoosesIn (record { keys = key₁ ∷ []; max_links = None; in_use = true ∷ [] }) (port_with b ∷ []) (port_with c ∷ [])
     → RunsToRest (mux_rows (ready_of (key₁ ∷ []) (views (port_with c ∷ [])) c.choice)) c d → RunsPeriodic d e
     → Settling (system id a) (system id e)
 settles_from id a b c d e first chooses runs periodic = (
@@ -217,14 +218,14 @@ settles_from id a b c d e first chooses runs periodic = (
 )
 
 pub settles : (id : SystemId) (a c d e : Machines) → AtRest (mux_rows false) a
-    → ChoosesIn (record { keys = key₁ ∷ []; max_links = None }) (port_with a ∷ []) (port_with c ∷ [])
+    → ChoosesIn (record { keys = key₁ ∷ []; max_links = None; in_use = true ∷ [] }) (port_with a ∷ []) (port_with c ∷ [])
     → RunsToRest (mux_rows (ready_of (key₁ ∷ []) (views (port_with c ∷ [])) c.choice)) c d → RunsPeriodic d e
     → Settling (system id a) (system id e)
 settles id a c d e rest chooses runs periodic = settles_from id a a c d e (0, refl, rest) chooses runs periodic
 
 -- the port chooses nothing
 abbrev pub ChoosesNothing : Machines → Type 0
-ChoosesNothing m = ChoosesIn (record { keys = key₁ ∷ []; max_links = None }) (port_with m ∷ []) (port_with m ∷ [])
+ChoosesNothing m = ChoosesIn (record { keys = key₁ ∷ []; max_links = None; in_use = true ∷ [] }) (port_with m ∷ []) (port_with m ∷ [])
 
 nothing_down : (id : SystemId) → ChoosesNothing (begun id)
 nothing_down id = (port_with (begun id) ∷ [], (port_with (begun id) ∷ [], refl, (0, refl, refl)), refl)
@@ -232,7 +233,7 @@ nothing_down id = (port_with (begun id) ∷ [], (port_with (begun id) ∷ [], re
 nothing_raised : (id : SystemId) → ChoosesNothing (raised id)
 nothing_raised id = (port_with (raised id) ∷ [], (port_with (raised id) ∷ [], refl, (0, refl, refl)), refl)
 
-chooses_one : ChoosesIn (record { keys = key₁ ∷ []; max_links = None }) (port_with hears ∷ []) (port_with chose ∷ [])
+chooses_one : ChoosesIn (record { keys = key₁ ∷ []; max_links = None; in_use = true ∷ [] }) (port_with hears ∷ []) (port_with chose ∷ [])
 chooses_one = (port_with hears ∷ [], (port_with hears ∷ [], refl, (0, refl, refl)), refl)
 
 nothing_waiting : (c p w : ℕ) → ChoosesNothing (waiting c p w)

@@ -1,5 +1,5 @@
 -- 356 rounds of two systems from the moment that both links are up: five in which LACPDUs go, and ticks alone between them.
-use Rattle.std.proofs.Common.{List, None, Ok, Some, [], ap, arith, false, inl, refl, slice_get, subst, suc, true, zero, ℕ, ◌+◌, ◌==◌, ◌∷◌}
+use Rattle.std.proofs.Common.{List, None, Ok, Some, [], ap, arith, false, inl, get_or, refl, slice_get, subst, suc, true, zero, ℕ, ◌+◌, ◌-◌, ◌==◌, ◌∷◌}
 use Rattle.std.proofs.Common.{◌≡◌, ◌≢◌, ◌≤◌, ◌⊎◌}
 use Rattle.std.proofs.lemmas.Bool.Decides.{nat_tests}
 use Rattle.std.proofs.lemmas.Option.{none-some, same_Some}
@@ -222,9 +222,13 @@ enough_aggregators Two k x at enabled = at_port
     ≤ aggregators_with y.port.party.key (half Two lifted_world).state)
     ⊎ AreOneGroup Two y.port.party.key lifted_world) (port_with (lifted far)) k x at (inl (omega arith))
 
+used : (k : ℕ) → get_or (true ∷ []) k true ≡ true
+used zero = refl
+used (suc k) = refl
+
 enough_links : (s : Side) → EnoughLinks (half s lifted_world).state
-enough_links One k most x at limit = absurd (none-some most limit)
-enough_links Two k most x at limit = absurd (none-some most limit)
+enough_links One = (λ k most x at limit. absurd (none-some most limit), λ agg. used (agg.0 - 1))
+enough_links Two = (λ k most x at limit. absurd (none-some most limit), λ agg. used (agg.0 - 1))
 
 bundle : (gives : Algorithms) → IsBundle BothAreActive lifted_world
 bundle gives = record {
