@@ -47,4 +47,11 @@ number() { sed -n "s/.*\"$2\":\([0-9]*\).*/\1/p" /run/traffic/$1; }
 lost() { wait; for w in to from; do row "$1, $w the far end: $(number $w.sent sent) sent, $(number $w.sent refused) refused, $(number $w.received received) came, $(number $w.received overtaken) overtaken, longest gap $(number $w.received gap_ms) ms"; done; }
 # missing WAY: how many of the frames that were sent did not come
 missing() { echo $(($(number $1.sent sent) - $(number $1.received received))); }
+# Whether numbered frames go out on each of these links of `dev`: what carries by its state, sends.
+sent_on() { dev cat /sys/class/net/$1/statistics/tx_packets; }
+used() {
+    for l in "$@"; do sent_on $l >/run/sent-$l; done
+    dev /mnt/flows send bond0 100 16 2 ports >/dev/null 2>&1
+    for l in "$@"; do [ $(($(sent_on $l) - $(cat /run/sent-$l))) -gt 20 ] || return 1; done
+}
 flows_ping() { dev $bb ping -c 2 -W 2 ${1:-10.0.0.2} >/dev/null; }

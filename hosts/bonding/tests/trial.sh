@@ -16,6 +16,7 @@ wanted "a1 is out as its carrier goes" 'within 2 "! carries dev a1"' '$(since $t
 sleep 2; ip -n far link set b1 up
 wanted "a1 is back" 'within 10 "carries dev a1 && carries far b1"'
 lost "b1 is down for 2 s"
+wanted "frames go out on a1 and a2" 'used a1 a2'
 
 # lacp_rate, which the driver takes of a bond that is down
 ip -n dev link set bond0 down; ip -n dev link set bond0 type bond lacp_rate slow; ip -n dev link set bond0 up
@@ -42,6 +43,7 @@ ip -n dev link set a1 nomaster
 wanted "a2 and a3 go on as a1, whose aggregator it was, leaves" 'keeps 8 "carries dev a2 && carries dev a3 && carrier"'
 wanted "the far end has b1 out at once" 'within 2 "! carries far b1"'
 lost "a3 comes, a1 leaves"
+wanted "frames go out on a2 and a3" 'used a2 a3'
 wanted "no frame is lost by that" '[ $(missing to) -le 20 ] && [ $(missing from) -le 20 ]'
 ip -n dev link set a1 down; ip -n dev link set a1 master bond0
 wanted "a1 is back" 'within 10 "carries dev a1 && carries far b1"'

@@ -67,6 +67,11 @@ def conform(built: Built) -> None:
     judge("conform", told)
 
 
+def beside(built: Built) -> None:
+    """Frames lost with our module and with the kernel's own, in one guest: rows of a table."""
+    judge("beside", guest(built, "beside"))
+
+
 def layout(built: Built) -> None:
     """No struct that other modules look into is another one, as pahole tells both; and Debian's newest kernels have a module without a warning."""
     if not shutil.which("pahole"):

@@ -3,6 +3,7 @@ It is made once of Debian's sources and kept, as the module of it is built in it
 
 from __future__ import annotations
 
+import fcntl
 import os
 import re
 import shutil
@@ -18,7 +19,7 @@ SERIES = "6.1"
 PARTS = """64BIT MODULES MODULE_UNLOAD PRINTK PRINTK_TIME BUG EXPERT FUTEX EPOLL SIGNALFD TIMERFD EVENTFD SHMEM AIO ADVISE_SYSCALLS MEMBARRIER POSIX_TIMERS HIGH_RES_TIMERS
 NO_HZ_IDLE FILE_LOCKING MULTIUSER SYSFS PROC_FS PROC_SYSCTL TMPFS DEVTMPFS HOSTFS BINFMT_ELF BINFMT_SCRIPT TTY UNIX98_PTYS STDERR_CONSOLE SSL NULL_CHAN NAMESPACES NET_NS
 UTS_NS PID_NS USER_NS NET PACKET UNIX INET IPV6 IP_MULTICAST NETDEVICES NET_CORE DUMMY VETH TUN MACVLAN BRIDGE BRIDGE_VLAN_FILTERING VLAN_8021Q NET_SCHED NET_SCH_INGRESS
-NET_SCH_NETEM NET_CLS NET_CLS_MATCHALL NET_CLS_ACT NET_ACT_MIRRED BPF_SYSCALL ETHTOOL_NETLINK NETCONSOLE KALLSYMS KALLSYMS_ALL DEBUG_INFO_NONE"""
+NET_SCH_NETEM NET_CLS NET_CLS_MATCHALL NET_CLS_ACT NET_ACT_MIRRED NET_ACT_GACT BPF_SYSCALL ETHTOOL_NETLINK NETCONSOLE KALLSYMS KALLSYMS_ALL DEBUG_INFO_NONE"""
 # What looks at it.
 LOOKS = """DEBUG_KERNEL DEBUG_FS PROVE_LOCKING PROVE_RAW_LOCK_NESTING PROVE_RCU PROVE_RCU_LIST RCU_EXPERT DEBUG_ATOMIC_SLEEP DEBUG_LOCK_ALLOC DEBUG_SPINLOCK DEBUG_MUTEXES DEBUG_LIST
 DEBUG_SG DEBUG_NOTIFIERS DEBUG_OBJECTS DEBUG_OBJECTS_FREE DEBUG_OBJECTS_TIMERS DEBUG_OBJECTS_WORK DEBUG_OBJECTS_RCU_HEAD DEBUG_STACK_USAGE SCHED_STACK_END_CHECK
@@ -66,7 +67,14 @@ def make(tree: str, log: str, *words: str) -> None:
 
 
 def checked(built: Built) -> Kernel:
-    """The kernel; its program is `linux` in its tree."""
+    """The kernel; its program is `linux` in its tree. One run at a time makes it."""
+    with open(f"{built.sources.cache}/kernel-busy", "w", encoding="utf-8") as lock:
+        fcntl.flock(lock, fcntl.LOCK_EX)
+        return made(built)
+
+
+def made(built: Built) -> Kernel:
+    """The kernel, which is made where it is not of these words yet."""
     archive = archive_of(built.sources, SERIES)
     of = f"{archive} {os.path.getmtime(archive)}\n{PARTS}\n{LOOKS}\n{VALUES}\n{ALLOWED}"
     folder = f"{built.sources.cache}/kernels/checked"
