@@ -43,6 +43,8 @@ class Host(NamedTuple):
     pack: Callable[[Sources, Order], list[str]]
     # The packages that it takes the place of, with their versions.
     before: Callable[[Sources], dict[str, str]]
+    # The version of the sources to take; None: the newest one.
+    version: Callable[[Sources], str | None] = lambda _: None
 
 
 def archives(folder: str) -> list[str]:
@@ -130,6 +132,47 @@ def once(folder: str, word: str, make: Callable[[], object]) -> None:
     pathlib.Path(f"{folder}.stamp").unlink(missing_ok=True)
     make()
     write_text(f"{folder}.stamp", word)
+
+
+def need_file(pattern: str) -> str:
+    """The one file of this pattern."""
+    found = glob.glob(pattern)
+    if len(found) != 1:
+        raise Missing(f"there is no {pattern}")
+    return found[0]
+
+
+def architecture() -> str:
+    return subprocess.run(["dpkg", "--print-architecture"], capture_output=True, text=True).stdout.strip()
+
+
+def control_of(tree: str, order: Order, package: str, says: str) -> None:
+    """Gives a package its version, and says what it has; stops the tool where it is of other sources."""
+    path = f"{tree}/DEBIAN/control"
+    control = read_text(path)
+    packed = re.search(r"^Version: (.*)$", control, re.M)
+    if not packed or re.sub(r"\+b\d+$", "", packed.group(1).split("+niw")[0]) != order.source.version:
+        raise Missing(f"the {package} that apt has is not of the sources {order.source.version}: --version names others")
+    control = re.sub(r"^Version: .*$", f"Version: {order.version}", control, flags=re.M)
+    write_text(path, control.rstrip("\n") + f"\n .\n {says}\n")
+
+
+def repacked(sources: Sources, order: Order, package: str, says: str, log: str, change: Callable[[str], None]) -> str:
+    """A package of this machine with what is changed in its tree, and another version; answers its file."""
+    given = sources.package(package)
+    if not given:
+        raise Missing(f"apt has no package {package}, of which all else is taken")
+    tree = f"{order.folder}.package"
+    shutil.rmtree(tree, ignore_errors=True)
+    done(["dpkg-deb", "-R", given, tree], "/", log)
+    control_of(tree, order, package, says)
+    change(tree)
+    files = sorted(os.path.relpath(os.path.join(at, name), tree) for at, _, names in os.walk(tree) for name in names if not os.path.islink(os.path.join(at, name)))
+    sums = subprocess.run(["md5sum", "--", *(it for it in files if not it.startswith("DEBIAN/"))], cwd=tree, capture_output=True, text=True)
+    write_text(f"{tree}/DEBIAN/md5sums", sums.stdout)
+    made = f"{order.out}/{package}_{order.version.split(':')[-1]}_{architecture()}.deb"
+    done(["dpkg-deb", "--root-owner-group", "-b", tree, made], "/", log)
+    return made
 
 
 def before(names: tuple[str, ...]) -> Callable[[Sources], dict[str, str]]:
