@@ -49,7 +49,7 @@
  * lies between blocks when devices come and go.
  */
 #define LAG_POOL_OCTETS ((size_t)2 * RTE_MAX_ETHPORTS * \
-		(NIW_MEMORY(1, 1, NIW_FEW_CONVERSATIONS) + 1024))
+		(NIW_MEMORY(1, 1, NIW_ONE_CONVERSATION) + 1024))
 
 #define LAG_USED (STATE_COLLECTING | STATE_DISTRIBUTING)
 
@@ -410,7 +410,7 @@ make_system(struct bond_dev_private *internals, struct lag_bond *bond, int64_t n
 	struct lag_port ports[NIW_MOST_PORTS];
 	struct niw_config config = {
 		.priority = 0xFFFF,
-		.conversations = NIW_FEW_CONVERSATIONS,
+		.conversations = NIW_ONE_CONVERSATION,
 	};
 	struct rte_ether_addr mac = internals->mode4.mac_addr;
 	struct niw_made made;

@@ -412,13 +412,10 @@ lag_end_set_mode(struct lag_end *end, uint16_t port, bool active, bool short_tim
         return;
     }
     niw_set_mode(&end->system, port, active, short_timeout);
-    /* A partner that is told of a long timeout sends its next LACPDU up to 30 s later, and the timer has the rest of the short one: the last LACPDU
-     * comes again, as the partner sends it once it is told, and starts the timer with the long one. It is kept so for the next remake, too. */
-    if (was_short && !short_timeout && niw_receive_state(&end->system, port).number == NIW_RECEIVE_CURRENT) {
-        uint8_t response[NIW_FRAME];
-
+    /* A partner that is told of a long timeout may send its next LACPDU 30 s later: the last one is kept, for the next remake, as it sends it once it is
+     * told. */
+    if (was_short && !short_timeout) {
         heard->frame[LAG_PARTNER_STATE] &= (uint8_t) ~NIW_STATE_TIMEOUT;
-        niw_receive(&end->system, port, heard->frame, sizeof heard->frame, response, sizeof response);
     }
 }
 

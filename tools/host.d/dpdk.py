@@ -64,8 +64,9 @@ def pack(sources: Sources, order: Order) -> list[str]:
     made = f"{order.folder}/build/drivers/{OBJECT}"
 
     def change(tree: str) -> None:
-        inside = need_file(f"{tree}/usr/lib/*/{OBJECT}")
+        inside = need_file(f"{tree}/usr/lib/*/dpdk/pmds-*/{OBJECT}")
         done(["strip", "--strip-unneeded", "-o", inside, made], "/", log)
+        os.chmod(inside, 0o644)
         shutil.copy(os.path.join(HOSTS, "dpdk", "README.md"), f"{tree}/usr/share/doc/{PACKAGE}/README.Niwhopera.md")
 
     return [repacked(sources, order, PACKAGE, "Mode 4 of this build is that of Niwhopera, over the library of c/lag.c.", log, change)]

@@ -43,7 +43,7 @@ carries(size_t place)
 static void
 make_partner(unsigned which)
 {
-    const struct niw_config config = { .priority = 2, .mac = { 2, 0, 0, 0, 1, (uint8_t) which }, .conversations = NIW_FEW_CONVERSATIONS };
+    const struct niw_config config = { .priority = 2, .mac = { 2, 0, 0, 0, 1, (uint8_t) which }, .conversations = NIW_ONE_CONVERSATION };
     const uint16_t keys[PORTS] = { 3, 3, 3 };
     struct niw_port its[PORTS];
 
@@ -64,7 +64,7 @@ make_partner(unsigned which)
 static void
 remake(void)
 {
-    const struct niw_config config = { .priority = 1, .mac = { 2, 0, 0, 0, 0, 1 }, .conversations = NIW_FEW_CONVERSATIONS };
+    const struct niw_config config = { .priority = 1, .mac = { 2, 0, 0, 0, 0, 1 }, .conversations = NIW_ONE_CONVERSATION };
 
     for (size_t i = 0; i < PORTS; i++) {
         list[i].carried = here.system.live && carries(i);

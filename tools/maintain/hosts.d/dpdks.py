@@ -21,7 +21,7 @@ from dpdk import FOLDER, OBJECT
 from fetching import Packages
 from linking import build_daemon
 from pmd import PYTHON, Lagd, Partner, Spaces, Testpmd, Traffic
-from repository import MAINTAIN, TOP
+from repository import MAINTAIN, TOP, read_text
 from spaces import ip
 from switches import words_of
 from testpmd import Testpmd as Debians
@@ -117,10 +117,10 @@ def rates(built: Built) -> None:
     spaces = Spaces(2)
     wrong = Testpmd(spaces, program(built), f"{built.folder}/wrong.log", more=",lacp_rate=quick")
     try:
-        wrong.start()
-        check(False, "lacp_rate=quick is refused")
-    except Failed as why:
-        check("Invalid lacp_rate" in str(why) or "Invalid lacp_rate" in open(wrong.log, encoding="utf-8").read(), "lacp_rate=quick is refused, and it is said", why)
+        with contextlib.suppress(Failed):
+            wrong.start()
+        told = read_text(wrong.log)
+        check("Invalid lacp_rate" in told, "lacp_rate=quick is refused, and it is said", told[-800:])
     finally:
         wrong.end()
         spaces.end()
@@ -180,7 +180,8 @@ def suite(built: Built, name: str, patch: bool, words: tuple[str, ...]) -> subpr
     places += [*glob.glob(f"{tree}/lib/*/"), *(f"{tree}/drivers/{it}" for it in ("net/bonding", "net/ring", "bus/vdev", "bus/pci"))]
     line = ["-O2", "-march=corei7", "-w", "-include", "rte_config.h", "-DALLOW_EXPERIMENTAL_API", "-DALLOW_INTERNAL_API", "-D_GNU_SOURCE", "-DRTE_LOG_DEFAULT_LOGTYPE=bond",
             *words, *(f"-I{it}" for it in places), "-o", made, f"{TESTS}/own_suite.c", f"{made}.c", f"{tree}/app/test/packet_burst_generator.c", *driver]  # fmt: skip
-    line += ["-Wl,--whole-archive", *libraries, *sorted(glob.glob(f"{build}/lib/librte_*.a")), "-Wl,--no-whole-archive", "-lpthread", "-ldl", "-lm", "-lnuma"]
+    line += ["-Wl,--whole-archive", *libraries, "-Wl,--no-whole-archive", "-Wl,--start-group", *sorted(glob.glob(f"{build}/lib/librte_*.a")), "-Wl,--end-group"]
+    line += ["-lpthread", "-ldl", "-lm", "-lnuma"]
     if words:
         line.remove("-DRTE_LOG_DEFAULT_LOGTYPE=bond")
     built.compile(*line)

@@ -36,7 +36,7 @@ static void tell(const char *what, struct niw_made made) {
 }
 
 int main(void) {
-    struct niw_config config = {.priority = 1, .conversations = NIW_FEW_CONVERSATIONS}, other = {.conversations = 1};
+    struct niw_config config = {.priority = 1, .conversations = NIW_FEW_CONVERSATIONS}, other = {.conversations = 2};
     struct niw_system held = NIW_EMPTY, empty = NIW_EMPTY;
     static char line[1000]; /* printf asks malloc for none */
     refused = true;
@@ -46,7 +46,7 @@ int main(void) {
     tell("100 ports", niw_new(&empty, &config, keys, 1, ports, 100));
     tell("100000 aggregators", niw_new(&empty, &config, keys, MANY, ports, 1));
     tell("a warm start with 100 ports", niw_resume(&empty, &config, keys, 1, ports, 100, saved, 1));
-    tell("65 saved ports, 1 conversation", niw_resume(&empty, &other, keys, 1, ports, 1, saved, 65));
+    tell("65 saved ports, 2 conversations", niw_resume(&empty, &other, keys, 1, ports, 1, saved, 65));
     refused = false;
     printf("65 saved ports that are none, with memory: %s\n", niw_status_text(niw_resume(&empty, &config, keys, 1, ports, 1, saved, 65).status));
     if (niw_new(&held, &config, keys, 1, ports, 1).status != NIW_OK) return 1;
