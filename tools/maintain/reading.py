@@ -15,7 +15,7 @@ MOST = {
     "docs/ASSURANCE.md": 3000, "docs/COMMAND.md": 1800, "docs/CONFORM.md": 2800, "docs/FIRMWARE.md": 2600, "docs/GLOSSARY.md": 500, "docs/INSTALL.md": 500,
     "docs/LAGD.md": 3800, "docs/MEASURED.md": 1400, "docs/PROFILE.md": 6400, "docs/SECURITY.md": 400, "docs/TROUBLE.md": 3000, "docs/USING.md": 3600,
     "docs/internals/ARCHITECTURE.md": 1000, "docs/internals/DECISIONS.md": 1500, "docs/internals/THEOREMS.md": 1200,
-    "hosts/README.md": 700, "hosts/bonding/README.md": 800, "hosts/teamd/README.md": 2200, "hosts/openvswitch/README.md": 600,
+    "hosts/README.md": 700, "hosts/bonding/README.md": 800, "hosts/dpdk/README.md": 600, "hosts/teamd/README.md": 2200, "hosts/openvswitch/README.md": 600,
 }  # fmt: skip
 # Of a page that has no number.
 OTHERS = 700
