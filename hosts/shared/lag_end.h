@@ -246,8 +246,8 @@ lag_end_wake(struct lag_end *end, const struct niw_view *view, struct lag_wake *
 /* Whether lag.h has niw_set_in_use. */
 #define LAG_HAS_IN_USE (NIW_VERSION >= 13)
 
-/* Whether a port carries; or would, once its aggregator is in use: it has an aggregator, and its partner is in sync. Where all aggregators are in use it carries
- * by then. */
+/* Whether a port carries; or would, once its aggregator is in use: it has an aggregator, and its partner is in sync. Where all aggregators are in use it
+ * carries by then. */
 static inline bool
 lag_is_ready(const struct niw_view *view)
 {

@@ -13,7 +13,7 @@ import subprocess
 import tempfile
 import threading
 import time
-from typing import Iterator
+from typing import Callable, Iterator
 
 from built import HOSTS, Built
 from checking import Failed, Skipped, check, within
@@ -62,10 +62,10 @@ def beside(built: Built, kind: str, more: str = "") -> Iterator[tuple[Testpmd, L
         spaces.end()
 
 
-def whole(what: str, device: Testpmd, peer: Lagd, seconds: float = 4, act: object = None, late: int = 0) -> None:
+def whole(what: str, device: Testpmd, peer: Lagd, seconds: float = 4, act: Callable[[], object] = lambda: None) -> None:
     """Data both ways while something is done: none is lost."""
-    went = Traffic(device, peer).during(seconds, act if callable(act) else lambda: None)
-    check(went.from_it <= late and went.to_it <= late, f"{what}: {went.from_it} frames of the client lost from it, {went.to_it} to it", went)
+    went = Traffic(device, peer).during(seconds, act)
+    check(not went.from_it and not went.to_it, f"{what}: {went.from_it} frames of the client lost from it, {went.to_it} to it", went)
 
 
 def members(built: Built) -> None:
