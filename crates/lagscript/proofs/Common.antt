@@ -8,7 +8,7 @@ pub use Rattle.lagsystem.specs.First.{ConfigValue, config_value, or_first, refus
 pub use Rattle.lagscript.specs.declared.config.BadWorld.{BadWorld}
 pub use Rattle.lagscript.specs.declared.fault.ScriptFault.{ScriptFault}
 pub use Rattle.lagscript.specs.declared.tables.CablePlan.{CablePlan}
-pub use Rattle.lagscript.specs.Configs.{bad_end, first_below, has_bad_end, refusal_of_all}
+pub use Rattle.lagscript.specs.Configs.{bad_end, first_below, has_bad_end, refusal_of_all, refusal_of_either}
 pub use Rattle.lagscript.specs.Entries.{at_entry, event_at, event_in, event_named, event_result_value, events_from}
 pub use Rattle.lagscript.specs.EventValues.{EventValue, event_values}
 pub use Rattle.lagscript.specs.Keys.{each_in, ends_in, flag_in, from_one, integer_in, just_two, key_in, keys_among, limit_in, list_in, mac_in}

@@ -1,7 +1,7 @@
 -- A configuration without a fault is accepted; and a plan made from its parts.
 use Rattle.lagscript.proofs.Common.{Bool, Err, List, None, Ok, Option, Result, Some, [], ap, cond, false, inl, inr, length, option_and_then}
-use Rattle.lagscript.proofs.Common.{option_map, refl, subst, sym, true, ℕ, ◌∷◌, ◌≡◌, Members, ConfigValue, or_first, refusal, BadWorld, ScriptFault}
-use Rattle.lagscript.proofs.Common.{CablePlan, bad_end, refusal_of_all, EventValue, ReadsAs, if_or_fault, ◌>>=◌, HasPlan, HasScript, IsRefused}
+use Rattle.lagscript.proofs.Common.{option_map, refl, subst, sym, true, ℕ, ◌∷◌, ◌≡◌, Members, ConfigValue, or_first, BadWorld, ScriptFault}
+use Rattle.lagscript.proofs.Common.{CablePlan, bad_end, refusal_of_all, refusal_of_either, EventValue, ReadsAs, if_or_fault, ◌>>=◌, HasPlan, HasScript, IsRefused}
 use Rattle.lagscript.proofs.Common.{PlanValue, ReadsPlan, ends_of, no_fault, plan_in, plan_value, planned, script_fault_for}
 use Rattle.toml.specs.Parse.{parse_document}
 use Rattle.lagtypes.specs.Same.{same_system}
@@ -27,8 +27,8 @@ no_reason one two same place h = cc
 -- without a fault there is no reason to refuse it
 pub not_refused : (systems : List ConfigValue) (cables : List (ℕ × ℕ))
     → option_and_then script_fault_for (refusal_of_all systems cables) ≡ None → refusal_of_all systems cables ≡ None
-not_refused (a ∷ b ∷ []) cables h = no_reason (refusal a.aggregators a.ports a.max_links a.conversations)
-    (refusal b.aggregators b.ports b.max_links b.conversations) (same_system a.system b.system) (bad_end a.ports b.ports cables) h
+not_refused (a ∷ b ∷ []) cables h = no_reason (refusal_of_either a) (refusal_of_either b) (same_system a.system b.system)
+    (bad_end a.ports b.ports cables) h
 not_refused systems cables h = refl
 
 -- the steps of a plan
