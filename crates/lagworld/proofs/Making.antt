@@ -17,7 +17,8 @@ use Rattle.lagsystem.specs.declared.config.PortConfig.{PortConfig}
 use Rattle.lagsystem.specs.First.{ConfigValue, config_value, configured_number, or_first, refusal, config_refusal as refusal_of_one}
 use Rattle.lagscript.specs.declared.config.WorldConfig.{WorldConfig}
 use Rattle.lagscript.specs.Configs.{bad_end, can_join, first_below, has_bad_end, has_port, world_refusal, refusal_of_all, refusal_of_two, shares_end}
-use Rattle.lagscript.specs.Configs.{system_refusal}
+use Rattle.lagscript.specs.Configs.{refusal_of_either, system_refusal}
+use Rattle.lagscript.specs.declared.config.BadWorld.TheVariants.{SameSystem}
 
 -- what is kept of a port is what its configuration says
 log_found : (system : SystemId) (ports : List PortConfig) (p : ℕ)
@@ -153,10 +154,18 @@ are_joined first second cables h i l = not-false (can_join first second (take i 
     (none_below (has_bad_end first second cables) (length cables) i
     (mapped_none suc (first_below (has_bad_end first second cables) (length cables)) h) l)
 
+-- what refuses neither system of two refuses no system
+accepted_of : (side : ℕ) (a : ConfigValue) → system_refusal side a ≡ None → refusal a.aggregators a.ports a.max_links a.conversations ≡ None
+accepted_of side a h = (first_none (refusal a.aggregators a.ports a.max_links a.conversations) _ (mapped_none _ (refusal_of_either a) h)).0
+
 two_joined : (a b : ConfigValue) (cables : List (ℕ × ℕ)) → refusal_of_two a b cables ≡ None
     → (refusal a.aggregators a.ports a.max_links a.conversations ≡ None)
     × (refusal b.aggregators b.ports b.max_links b.conversations ≡ None) × AreJoined a.ports b.ports cables
-two_joined a b cables h = grind (arith, first_none, system_refusal, same_system, mapped_none, refusal, are_joined, bad_end)
+two_joined a b cables h =
+    let one = first_none (system_refusal 1 a) _ h in
+    let two = first_none (system_refusal 2 b) _ one.1 in
+    let same = first_none (if same_system a.system b.system then Some SameSystem else None) _ two.1 in
+    (accepted_of 1 a one.0, accepted_of 2 b two.0, are_joined a.ports b.ports cables (mapped_none _ (bad_end a.ports b.ports cables) same.1))
 
 -- a cable that there is can be joined
 joined_at : (first second : List PortConfig) (cables : List (ℕ × ℕ)) (i : ℕ) (c : ℕ × ℕ) → AreJoined first second cables
