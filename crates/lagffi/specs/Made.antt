@@ -1,5 +1,5 @@
 -- What lag_new makes of a configuration, and what it tells.
-use Rattle.std.specs.Prelude.{◌≡◌, ℕ, ◌==◌, if◌then◌else◌, List, Option, None, Some, map}
+use Rattle.std.specs.Prelude.{◌≡◌, ℕ, ◌==◌, if◌then◌else◌, true, List, Option, None, Some, length, map, replicate}
 use Rattle.lagtypes.specs.declared.identifiers.Key.{Key}
 use Rattle.lagsystem.specs.declared.config.Config.{Config}
 use Rattle.lagsystem.specs.declared.config.PortConfig.{PortConfig}
@@ -59,7 +59,7 @@ pub record IsConfigOf (config : LagConfig) (of_keys : List ℕ) (of_ports : List
   pub ports : taken.ports.items ≡ map lag_port_config of_ports
 
 -- The first state of a system with this configuration, which is accepted: its ports agree, and its view is the first
--- view of the two-system theorem (lagmodel).
+-- view of the two-system theorem (lagmodel). Each aggregator is in use.
 pub record IsMadeOfLagConfig (config : LagConfig) (of_keys : List ℕ) (of_ports : List LagPort) (s : SystemState) : Type 0 where
   pub first : IsFirst s
   pub agrees : PortsAgree s
@@ -72,6 +72,7 @@ pub record IsMadeOfLagConfig (config : LagConfig) (of_keys : List ℕ) (of_ports
   pub conversations : s.conversations ≡ config.conversations
   pub keys : s.keys ≡ map lag_key of_keys
   pub max_links : s.max_links ≡ lag_limit config.max_links
+  pub in_use : s.in_use ≡ replicate (length s.keys) true
   pub ports : s.ports ≡ map lag_port_config of_ports
 
 -- a status alone, without a reason to refuse a configuration; with status 0, the system was made

@@ -1,4 +1,6 @@
+use Rattle.std.specs.Prelude.{List, length, replicate, true}
 use Rattle.lagffi.proofs.Common.{ap, subst, sym, ◌∙◌, IsMadeOfLagConfig}
+use Rattle.lagtypes.specs.declared.identifiers.Key.{Key}
 use Rattle.lagtypes.specs.declared.identifiers.SystemId.{SystemId}
 use Rattle.lagffi.proofs.made.system_of.Goals as goal
 
@@ -17,5 +19,6 @@ returns-clause-made c = let configured = c.in_ok-system.ensures.configured in
       conversations = configured.conversations ∙ taken.conversations;
       keys = configured.keys ∙ taken.keys;
       max_links = configured.max_links ∙ taken.max_links;
+      in_use = configured.in_use ∙ ap (λ (keys : List Key). replicate (length keys) true) (sym configured.keys);
       ports = configured.ports ∙ taken.ports;
     })
