@@ -180,4 +180,4 @@ moded PortDisabled n b a = a
 
 pub setting_timed : EachSettingKeepsTimed
 setting_timed = setting_each TimedAt timed_settles (λ n p choice a. a)
-        (λ n p active short a. (moded p.receive p.current_while (p.short && not short) a.0, a.1, a.2, a.3))
+    (λ n p active short a. (moded p.receive p.current_while (p.short && not short) a.0, a.1, a.2, a.3))

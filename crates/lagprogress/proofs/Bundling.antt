@@ -42,9 +42,9 @@ chose_occupies agg c h = grind (arith, nat_tests)
 pub never_stands : (s : SystemState) (i : ℕ) (x : SystemPort) (agg : AggId) → IsSound s → EnoughLinks s → slice_get s.system_ports i ≡ Some x
     → x.port.choice ≡ Standby agg → ⊥
 never_stands s i x agg h enough there stands = let full : IsFull s agg = elim (waits_for_room s i x agg h there stands) [
-      | inl unused ↦ absurd (no (sym unused ∙ enough.1 agg))
-      | inr f ↦ f
-    ] in
+  | inl unused ↦ absurd (no (sym unused ∙ enough.1 agg))
+  | inr f ↦ f
+] in
     let key = x.port.party.key in
     let one : SystemPort → Bool = λ y. has_chosen agg y.port.choice in
     let other : SystemPort → Bool = λ y. y.port.party.key.0 == key.0 in

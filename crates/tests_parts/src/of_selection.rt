@@ -245,8 +245,7 @@ fn tells_room_and_the_next_standby_port(rt: HostRuntime) -> Result<(), NoMemory>
 
 #[test]
 fn an_aggregator_that_is_not_in_use_has_no_room(rt: HostRuntime) -> Result<(), NoMemory> {
-    let mut aggregators =
-        Aggregators::with_limit(rt.alloc(), &[Key(1), Key(1), Key(2)], Some(2))?;
+    let mut aggregators = Aggregators::with_limit(rt.alloc(), &[Key(1), Key(1), Key(2)], Some(2))?;
     let views = all_standby(2);
     // agg, in use, and then whether 1, 2 and 3 are in use; the port that comes next in 2
     let rows = [
@@ -261,8 +260,18 @@ fn an_aggregator_that_is_not_in_use_has_no_room(rt: HostRuntime) -> Result<(), N
         aggregators.set_in_use(AggId(agg), in_use);
         let told = [1, 2, 3].map(|agg| aggregators.is_in_use(AggId(agg)));
         same_in_row(&rt, place, &told, &each);
-        same_in_row(&rt, place, &aggregators.room(&views, AggId(2)), &next.is_some());
-        same_in_row(&rt, place, &aggregators.next_standby(&views, AggId(2)), &next);
+        same_in_row(
+            &rt,
+            place,
+            &aggregators.room(&views, AggId(2)),
+            &next.is_some(),
+        );
+        same_in_row(
+            &rt,
+            place,
+            &aggregators.next_standby(&views, AggId(2)),
+            &next,
+        );
         same_in_row(&rt, place, &aggregators.is_in_use(AggId(4)), &false);
     }
     Ok(())
