@@ -197,7 +197,8 @@ const ONE_OF_TWO_IN_USE: [Row<'static>; 10] = [
 
 /// The other aggregator carries in the same tick, since wait_while of its port has expired.
 const THE_OTHER_ONE: [Row<'static>; 14] = [
-    Row::Timers(2, 10, 0, true),
+    // nothing has asked it to send: what its partner says of it is right
+    Row::Timers(2, 10, 0, false),
     Row::Uses(1, false, Ok(())),
     Row::Chosen(1, STANDBY),
     Row::Mux(1, MuxState::Waiting),
