@@ -3,10 +3,10 @@
 from __future__ import annotations
 
 import xml.etree.ElementTree as xml
-from typing import Optional, Sequence, Type
+from typing import Iterable, Optional, Sequence, Type
 
 import pytest
-from conform_device import BY_NAME, Device, Drops, Full, HearsAndSays, World, beside, devices, is_lacpdu, put
+from conform_device import BY_NAME, Device, Drops, Full, HearsAndSays, Says, World, beside, devices, is_lacpdu, put
 from conform_faults import KeyUnchecked, LinkUnseen, set_bits
 
 from lagconform import command, junit, options, report
@@ -58,6 +58,31 @@ NoIndividual, Neighbours, Others, BehindAnotherRun = devices(
 def test_a_right_device_of_its_own_kind_passes(kind: Type[Device], name: str) -> None:
     found = play(kind, "RX-01", name)[-1]
     assert found.verdict == PASS, found.why
+
+
+class Administered(Says):
+    """Its port priority is another one from each 47th second on, which it tells at once."""
+
+    changed = 0
+
+    def ticked(self) -> None:
+        if int(self.now / 47) != self.changed:
+            self.changed = int(self.now / 47)
+            for port in self.links:
+                for octets in self.says(port, self.kept[port]):
+                    self.send(port, octets)
+
+    def hears(self, port: int, frame: bytes) -> Iterable[bytes]:
+        yield put(frame, 34, b"\x80\0") if is_lacpdu(frame) else frame
+
+    def said(self, port: int, frame: bytes) -> bytes:
+        self.kept[port] = frame
+        return put(frame, 14, bytes([0x80, self.changed]))
+
+
+def test_what_tells_a_change_of_the_device_itself_is_no_periodic_lacpdu() -> None:
+    found = play(Administered, "RX-01", "PT-07")[-1]
+    assert found.verdict == PASS and "left out: " in " ".join(found.notes), found.why
 
 
 def test_what_a_device_tells_of_the_run_before_is_not_looked_at() -> None:
