@@ -60,6 +60,17 @@ def other_octet(info: Info, at: int) -> Info:
     return replace(info, system=replace(info.system, mac=Mac(bytes(octets))))
 
 
+def other_high_octet(info: Info, field: str) -> Info:
+    """Another end: of one number, the high octet differs alone."""
+    if field == "priority":
+        return replace(info, system=replace(info.system, priority=info.system.priority ^ 0x0100))
+    if field == "key":
+        return replace(info, key=info.key ^ 0x0100)
+    port = info.port
+    other_port = replace(port, number=port.number ^ 0x0100) if field == "port" else replace(port, priority=port.priority ^ 0x0100)
+    return replace(info, port=other_port)
+
+
 def with_bits(info: Info, bits: dict[State, bool]) -> Info:
     """The same end with these bits of its state set or not."""
     state = info.state

@@ -315,6 +315,59 @@ class BackTooLate(Mute):
             self.mute[port] = self.now + 12
 
 
+class Damps(Mute):
+    """Is mute for 20 s where a link goes down for the third time in 60 s."""
+
+    finds = "RX-21"
+
+    def link(self, port: int, up: bool) -> None:
+        super().link(port, up)
+        if not up:
+            downs = self.kept[port] = [*(it for it in self.kept.get(port, []) if self.now - it < 60), self.now]
+            if len(downs) >= 3:
+                self.mute[port] = self.now + 20
+
+
+class DefaultedAtOnce(Says):
+    """A link that comes up is told as one on defaults: it is not EXPIRED first."""
+
+    finds = "RX-13"
+
+    def link(self, port: int, up: bool) -> None:
+        super().link(port, up)
+        self.kept[port] = self.now
+
+    def said(self, port: int, frame: bytes) -> bytes:
+        begins = self.now - self.kept.get(port, -9) < 3.5 and frame[32] & 0x80
+        return set_bits(set_bits(frame, 18, 0x80, False), 18, 0x40, True) if begins else frame
+
+
+class KeyOfTheGone(HearsAndSays):
+    """On defaults it tells the key of the partner that is gone."""
+
+    finds = "RX-20"
+
+    def heard(self, port: int, frame: bytes) -> bytes:
+        self.kept[port] = part(frame, 12, 2)
+        return frame
+
+    def said(self, port: int, frame: bytes) -> bytes:
+        return put(frame, 32, self.kept[port]) if frame[32] & 0x40 and port in self.kept else frame
+
+
+class Repeats(HearsAndSays):
+    """Some octets of its LACPDUs are those of its partner's last one."""
+
+    at = size = 1
+
+    def heard(self, port: int, frame: bytes) -> bytes:
+        self.kept[port] = part(frame, self.at, self.size)
+        return frame
+
+    def said(self, port: int, frame: bytes) -> bytes:
+        return put(frame, self.at, self.kept[port]) if port in self.kept else frame
+
+
 class NeverBack(Mute):
     """Is mute for good on a link that was down."""
 
@@ -402,6 +455,8 @@ ROWS += [
         Hears, "heard",
         ("AnyNaming", "Takes each partner as though it named the device.", "RX-07a RX-07b RX-07c RX-07d RX-07e RX-07g RX-08 RX-11",
          lambda self, port, frame: put(frame, 24, self.own(port))),
+        ("OwnPortLowOctet", "Compares the low octet of its own port number alone, in what the partner names.", "RX-07h",
+         lambda self, port, frame: put(frame, 36, b"\0") if any(part(frame, 26, 6)) else frame),
         ("VendorUnchecked", "Does not compare the first three octets of its system.", "RX-07g",
          lambda self, port, frame: put(frame, 26, OWN.mac[:3]) if any(part(frame, 26, 6)) else frame),
         ("SyncIgnored", "Does not look at Synchronization of the partner.", "RX-09 MX-02 MX-03 TX-06",
@@ -413,6 +468,11 @@ ROWS += [
         ("HighOctetLost", "Takes the high octet of the partner's keys for 0.", "FM-06 RX-12g SL-13 IV-04", lambda self, port, frame: put(frame, 12, b"\0")),
         ("NamedToTheBit", "A partner has to tell its state to the bit.", "RX-19",
          lambda self, port, frame: set_bits(frame, 18, SYNC, False) if (frame[52] ^ self.own(port)[14]) & 0x3A else frame),
+    ),
+    *devices(
+        Repeats, "at size",
+        ("VersionOfPartner", "Its LACPDUs have the version of the partner's last one.", "VN-02 VN-03 VN-04", 1, 1),
+        ("ReservedOfPartner", "The reserved octets of its Actor TLV are those of the partner's last one.", "VN-06", 19, 3),
     ),
     *devices(
         Drops, "drops",

@@ -36,6 +36,37 @@ class DisabledByChurn(Drops):
         return self.now < self.out.get(port, 0)
 
 
+class HeldUp(Device):
+    """LACPDUs that come less than 0.9 s behind one another hold wait_while up."""
+
+    finds, held = "MX-11", -9.0
+
+    def took(self, port: int, frame: bytes) -> None:
+        if is_lacpdu(frame):
+            last, self.kept[port] = self.kept.get(port, -9.0), self.now
+            self.held = self.now if self.now - last < 0.9 else self.held
+
+    def tick(self) -> None:
+        waits = self.system and any(self.on.mux_state(it) is MuxState.WAITING for it in self.links)
+        if not waits or self.now - self.held > 0.35:
+            super().tick()
+
+
+class DropsDeaf(Device):
+    """A partner that does not collect for 5 s is dropped, and attached anew."""
+
+    finds = "MX-04"
+
+    def ticked(self) -> None:
+        for port in (1, 2):
+            partner = int(self.on.partner(port).state)
+            if not self.is_on(port, State.COLLECTING) or partner & 0x10 or not partner & SYNC:
+                self.kept[port] = self.now
+            elif self.now - self.kept.get(port, self.now) > 5:
+                self.kept[port] = self.now
+                self.restart(port)
+
+
 class OneASecond(Device):
     """Sends one LACPDU a second at most."""
 

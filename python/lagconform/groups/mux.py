@@ -97,18 +97,31 @@ def back_to_attached(b: Bench) -> None:
 
 
 @group.test("04", "6.4.15", "The partner stops collecting", "carry", "say Collecting and Distributing 0, Synchronization 1",
-            rule="coupled: it carries on; independent: it collects alone. LACPDUs come, and it stays synchronized and collects", takes=2.5)  # fmt: skip
+            rule="for 8 s, coupled: it carries on; independent: it collects alone. LACPDUs come, and it stays synchronized and collects", takes=8.5)  # fmt: skip
 def partner_stops_collecting(b: Bench) -> None:
     """Collecting of the partner has no part in coupled control; in independent control the port stops distributing."""
     b.still_up()
     mark = b.mark()
     b.say(collecting=False, distributing=False)
-    b.wait(2.2)
+    b.wait(8)
     both = State.COLLECTING | State.SYNCHRONIZATION
     wrong = list(b.heard(1, mark, lambda pdu: pdu.actor.state & both != both))
     b.holds(next(b.heard(1, mark), None), "LACPDUs come")
     b.holds(not wrong, "it is synchronized and collects all the time", *wrong[:2])
     b.note("it distributes on: coupled control" if b.bits() & State.DISTRIBUTING else "it stops distributing: independent control")
+
+
+@group.test("11", "6.4.15, 6.4.4", "wait_while beside a partner that speaks often", "be a new partner that sends an LACPDU each 0.4 s",
+            rule="Synchronization is 1 after 2 s", tolerance="2 s: -0.25 s, +0.75 s (timer and LACPDU)", takes=3, causes=("MX-01",))  # fmt: skip
+def waits_once(b: Bench) -> None:
+    """wait_while starts once, where the port is selected: an LACPDU that comes in WAITING and tells nothing new does not start it again."""
+    b.begin(1, silent=True)
+    partner = b.partner()
+    partner.forced.update(OUT_OF_SYNC)
+    mark, sent = b.mark(), partner.send()
+    partner.keep_pace(0.4)
+    seen = b.first(1, mark, lambda pdu: pdu.partner.system == partner.me.system and pdu.actor.state & State.SYNCHRONIZATION, 6)
+    b.timed("it is synchronized", sent, seen, 2, 2, timer=True, causes=waited_wrong(b, sent, seen))
 
 
 @group.test("05", "6.4.15, 6.4.9", "Detached: all three bits fall", "carry", "change our key",

@@ -9,7 +9,7 @@ from niwhopera import Info, Lacpdu, Mac, PortId, State, SystemId
 
 from ..bench import PROMPT, QUIET, SOON, TIMERS, UNHEARD, Bench
 from ..model import DoesNotApply, Group, Run, Stop
-from ..pdus import CARRIES, NOBODY, SIX, end, other, other_octet, six
+from ..pdus import CARRIES, NOBODY, SIX, end, other, other_high_octet, other_octet, six
 
 group = Group("RX", "Receive machine (6.4.12)")
 # What explains that a device attaches too early or too late, where it did detach: its wait_while.
@@ -89,6 +89,24 @@ def each_octet(b: Bench) -> None:
         sent = partner.send()
         seen = b.first(1, mark, does_not_carry, SOON)
         b.timed(f"with another octet {at} it stops carrying", sent, seen, 0, PROMPT)
+        mark, partner.says = b.mark(), None
+        partner.send()
+        b.first(1, mark, carries, 4)
+
+
+@group.test("07h", "6.4.9 (recordPDU)", "The high octets of the device's own numbers are compared", "carry",
+            "name another system priority, key, port priority and port number of the device, one by one: each differs in its high octet alone",
+            rule="it stops carrying each time", tolerance="prompt: 0.5 s", takes=6, causes=("RX-07b", "RX-08"))  # fmt: skip
+def own_high_octets(b: Bench) -> None:
+    """recordPDU compares whole numbers: a partner that names port 257 does not name port 1."""
+    b.still_up()
+    partner = b.partner()
+    for what in ("priority", "key", "port_priority", "port"):
+        b.behind()
+        mark, partner.says = b.mark(), lambda info, what=what: other_high_octet(info, what)  # type: ignore[misc]
+        sent = partner.send()
+        seen = b.first(1, mark, does_not_carry, SOON)
+        b.timed(f"with another high octet of its {what} it stops carrying", sent, seen, 0, PROMPT)
         mark, partner.says = b.mark(), None
         partner.send()
         b.first(1, mark, carries, 4)
@@ -262,11 +280,15 @@ def other_bits(b: Bench) -> None:
 
 # So many seconds a device is given to carry again behind a link that was down.
 AGAIN = 6
+# So long behind a link that comes up a device is EXPIRED in any case: current_while has 3 s there (6.4.4: within 0.25 s).
+FIRST_EXPIRED = 2.5
+# How often a link goes down in turn, and for how long.
+FLAPS, FLAP = 4, 1.0
 
 
 @group.test("13", "6.4.12 (PORT_DISABLED)", "The link goes down and comes back", "carry", "take the link down for 1.5 s (--flap, or the hook)",
-            rule="the first LACPDU after it neither collects nor distributes, and is Expired or Defaulted if the device speaks first; it carries again within 6 s",
-            takes=5, hooks=("down", "up"), causes=("RX-02",))  # fmt: skip
+            rule="the first LACPDU after it neither collects nor distributes, and if the device speaks first it is Expired (or Defaulted, where it comes "
+            "later than 2.5 s); it carries again within 6 s", tolerance="2.5 s of the 3 s of EXPIRED", takes=5, hooks=("down", "up"), causes=("RX-02",))  # fmt: skip
 def link_down(b: Bench) -> None:
     """In PORT_DISABLED partner Synchronization is false, and the link comes back by EXPIRED."""
     b.up()
@@ -274,7 +296,7 @@ def link_down(b: Bench) -> None:
         b.link_goes(1, False)
         b.wait(1.5)
     b.silence()
-    mark = b.mark()
+    mark, begin = b.mark(), b.now()
     b.link_goes(1, True)
     up = b.now()
     seen = first = b.first(1, mark, lambda _: True, 4)
@@ -287,9 +309,28 @@ def link_down(b: Bench) -> None:
     told = seen.lacpdu.actor
     b.holds(not told.state & CARRIES, f"the first one does not carry: {end(told)}", seen)
     if first:
-        b.holds(told.state & (State.EXPIRED | State.DEFAULTED), "and is Expired (or on defaults)", seen)
+        soon = seen.time - begin <= FIRST_EXPIRED
+        b.holds(told.state & (State.EXPIRED if soon else State.EXPIRED | State.DEFAULTED), f"and is Expired{'' if soon else ' (or on defaults)'}", seen)
     again = b.first(1, mark, carries, AGAIN)
     b.holds(again, "it carries again", again)
+
+
+@group.test("21", "6.4.12 (PORT_DISABLED)", "The link goes down four times", "carry", "take the link down for 1 s, four times (--flap, or the hook)",
+            rule="it carries again within 6 s each time", takes=16, hooks=("down", "up"), causes=("RX-13",))  # fmt: skip
+def flaps(b: Bench) -> None:
+    """In PORT_DISABLED no count is kept: a link that comes up is EXPIRED at once, however often it went down before."""
+    b.up()
+    for turn in range(FLAPS):
+        with b.undone(lambda: b.link_goes(1, True)):
+            b.link_goes(1, False)
+            b.wait(FLAP)
+        mark = b.mark()
+        b.link_goes(1, True)
+        up = b.now()
+        again = b.first(1, mark, lambda pdu: carries(pdu) and b.partner().is_named_by(pdu), AGAIN)
+        came = f"after {again.time - up:.1f} s" if again else f"not in {AGAIN} s"
+        if not b.claim(again, f"down for the {turn + 1}. time, it carries again {came}; has to carry within {AGAIN} s", again):
+            return
 
 
 @group.test("15", "6.4.12 (BEGIN), 6.4.15", "The device starts anew", "carry",

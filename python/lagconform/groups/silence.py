@@ -4,12 +4,12 @@ from __future__ import annotations
 
 from typing import Callable, Optional
 
-from niwhopera import Lacpdu, Marker, MarkerKind, State, encode
+from niwhopera import Lacpdu, Marker, MarkerKind, PortId, State, SystemId, encode
 
 from ..bench import PROMPT, Bench
 from ..model import DoesNotApply, Frame, Stop
 from ..partner import slow
-from ..pdus import CARRIES
+from ..pdus import CARRIES, SIX, value
 from .receive import WAITS, carries, group, wants_active
 
 IS_OVER = State.EXPIRED | State.DEFAULTED
@@ -67,6 +67,36 @@ def defaults(b: Bench) -> None:
         b.claim(right, f"defaults are told {passed}; has to be 6 to 7 s, within {more:.2f} s", sent, seen)
         pdu = seen.lacpdu if seen else None
         b.holds(pdu and pdu.partner.system != b.partner().me.system, "our system is no longer named", seen)
+
+
+@group.test("20", "6.4.12, 6.4.9 (recordDefault)", "Defaults are the same whoever was there", "carry",
+            "say nothing until Defaulted", "be a partner that differs in each of its parameters, carry, and say nothing until Defaulted",
+            rule="on defaults it tells the same partner both times", takes=22, needs=("short-timeouts", "active"), causes=("RX-03",))  # fmt: skip
+def same_defaults(b: Bench) -> None:
+    """recordDefault records the administrative partner, of which nothing goes by the partner that is gone."""
+    wants_active(b)
+    seen: list[Frame] = []
+    for turn in range(2):
+        b.up()
+        wants_short(b)
+        if turn:
+            me = b.partner().me
+            b.partner().become(key=me.key ^ 0x4140, port=PortId(me.port.priority ^ 0x4140, me.port.number ^ 0x4140), system=SystemId(0x4140, me.system.mac))
+            b.partner().send()
+            if not b.until(6, b.is_ready):
+                raise Stop(f"it does not carry beside a partner of other parameters: {b.stands(1)}")
+        b.wait(0.5)
+        b.partner().send()
+        b.silence()
+        told = b.first(1, b.mark(), on_defaults, 10)
+        if not told:
+            raise Stop("it did not tell of its defaults in 10 s")
+        seen.append(told)
+    one, two = [it.lacpdu.partner for it in seen if it.lacpdu]
+    wrong = [it for it in SIX if value(one, it) != value(two, it)]
+    stands = "; ".join(f"{it} {value(one, it)}, and then {value(two, it)}" for it in wrong)
+    text = f"on defaults its partner has {stands}; has to be the same" if wrong else "on defaults its partner is the same"
+    b.claim(not wrong, text, *seen)
 
 
 @group.test("04", "6.4.12", "Each LACPDU starts current_while again", "carry", "send an LACPDU every 2.5 s, four times",

@@ -15,6 +15,7 @@ from ..bench import UNHEARD, Bench
 from ..model import DEVICES, MEMORY, PROFILE, Frame, Group, Stop
 from ..partner import slow
 from ..pdus import CARRIES, GROUP, SLOW, put
+from .fields import RESERVED, octets
 
 group = Group("VN", "LACPDUs of other versions and shapes (6.4.2.3, 6.4.12)", DEVICES)
 # How long is looked for it: a period of 1 s and more, and less than the 3 s after which the partner expires.
@@ -53,18 +54,22 @@ def not_collecting(b: Bench) -> bytes:
 
 
 def accepts(
-    number: str, title: str, change: Change, why: str, clause: str = "6.4.12", causes: Sequence[str] = (), unless: Optional[Change] = None, may: str = ""
+    number: str, title: str, change: Change, why: str, clause: str = "6.4.12", causes: Sequence[str] = (), unless: Optional[Change] = None, may: str = "",
+    behind: Optional[Callable[[Bench, Frame], None]] = None, rule: str = "",
 ) -> None:  # fmt: skip
-    """A test of an LACPDU that has to be taken. A device that ignores `unless`, too, may ignore it for the reason `may`."""
+    """A test of an LACPDU that has to be taken. A device that ignores `unless`, too, may ignore it for the reason `may`. `behind` looks at what the
+    device sends then."""
 
     def run(b: Bench) -> None:
         sent, seen = taken(b, change, None)
         if not seen and unless and not taken(b, unless, None)[1]:
             raise Stop(may)
         b.claim(seen, "it is taken" if seen else f"it is ignored: no LACPDU in {SEEN} s tells what it said; has to be taken", sent, seen)
+        if behind:
+            behind(b, sent)
 
     group.test(number, clause, title, "carry", "send one such LACPDU with Collecting and Distributing 0",
-               rule="taken: an LACPDU within 1.7 s shows it", tolerance="1.7 s", takes=2, causes=() if number == "01" else ("VN-01", *causes),
+               rule=f"taken: an LACPDU within 1.7 s shows it{rule}", tolerance="1.7 s", takes=2, causes=() if number == "01" else ("VN-01", *causes),
                purpose=why)(run)  # fmt: skip
 
 
@@ -102,17 +107,34 @@ def reserved(payload: bytes) -> bytes:
     return payload
 
 
+def own_version(b: Bench, sent: Frame) -> None:
+    """Claims that the device's version is its own, as it was before, whatever its partner's is."""
+    before = [it for it in b.frames[: sent.number] if not it.out and it.link == 1 and it.lacpdu][-1:]
+    wrong = next((it for it in b.heard(1, sent.number) if before and octets(it, 1, 1) != octets(before[0], 1, 1)), None)
+    came = f"it tells version {octets(wrong, 1, 1).hex()} then" if wrong else "it tells the same version then"
+    stood = f", and {octets(before[0], 1, 1).hex()} before; has to stay" if wrong else ""
+    b.claim(not wrong, f"{came}{stood}", sent, wrong)
+
+
+def no_echo(b: Bench, sent: Frame) -> None:
+    """Claims that the device's reserved octets are 0, whatever its partner's are."""
+    wrong = [(it, at) for it in b.heard(1, sent.number) for at in RESERVED if octets(it, 1, 1) == b"\1" and octets(it, at, 1) not in (b"", b"\0")]
+    stands = f"octet {wrong[0][1]} is {octets(*wrong[0], 1).hex()}" if wrong else "all are 00"
+    b.claim(not wrong, f"reserved octets of the device then: {stands}; has to be 00", sent, *[it for it, _ in wrong[:1]], causes=("FM-04",))
+
+
+SAME = "; its own version stays as it was"
 accepts("01", "An ordinary LACPDU is taken (base line)", lambda it: it,
         "The way by which this group sees whether an LACPDU is taken works with this device.")  # fmt: skip
-accepts("02", "Version 2", lambda it: put(it, 1, b"\2"), SHALL)
-accepts("03", "Version 255", lambda it: put(it, 1, b"\xff"), SHALL, causes=("VN-02",))
-accepts("04", "Version 0", lambda it: put(it, 1, b"\0"), SHALL, causes=("VN-02",))
+accepts("02", "Version 2", lambda it: put(it, 1, b"\2"), SHALL, behind=own_version, rule=SAME)
+accepts("03", "Version 255", lambda it: put(it, 1, b"\xff"), SHALL, causes=("VN-02",), behind=own_version, rule=SAME)
+accepts("04", "Version 0", lambda it: put(it, 1, b"\0"), SHALL, causes=("VN-02",), behind=own_version, rule=SAME)
 accepts("05", "Version 2 with the Port Algorithm and Digest TLVs", lambda it: put(put(it, 1, b"\2"), 58, V2),
         "A receiver of version 1 takes an LACPDU of version 2 by its first octets, and ignores the TLVs behind. In the place of the Terminator's length, "
         "which 6.4.12 lets it validate, stands that of the Port Algorithm TLV: a receiver that does so has no answer here.",
         "6.4.2.4, 6.4.12", ("VN-02",), lambda it: put(it, 59, V2[1:2]),
         "it is ignored, and so is an LACPDU of version 1 with octet 59 of this one, the length of the Terminator: 6.4.12 lets a device validate that")  # fmt: skip
-accepts("06", "Reserved octets that are not 0", reserved, SHALL)
+accepts("06", "Reserved octets that are not 0", reserved, SHALL, behind=no_echo, rule="; its own reserved octets are 0")
 accepts("07", "Other types of the Actor and Partner TLV", lambda it: put(put(it, 2, b"\x77"), 22, b"\x78"), SHALL)
 accepts("08", "Another type of the Collector TLV", lambda it: put(it, 42, b"\x79"), SHALL)
 accepts("09", "Another type of the Terminator TLV", lambda it: put(it, 58, b"\x7a\0"), SHALL)
