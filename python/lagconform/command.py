@@ -319,6 +319,7 @@ def main(words: Optional[Sequence[str]] = None) -> int:
         write_nothing(given, told)
         return SILENT if isinstance(why, NoDevice) else 2
     except KeyboardInterrupt:
+        tell("\nlagconform: interrupted before the first test", to=sys.stderr)
         write_nothing(given, "interrupted before the first test")
         return INTERRUPTED
     except Exception as why:  # status 1 would tell of a device that fails

@@ -219,7 +219,7 @@ def test_a_signal_while_modules_are_read_is_told(tmp_path: Path) -> None:
     paths = os.pathsep.join([str(tmp_path), str(Path(__file__).parents[1])])
     words = [sys.executable, "-m", "lagconform", "none0", "--json", "r.json", "--tap", "r.tap"]
     ended = subprocess.run(words, cwd=tmp_path, env={**os.environ, "PYTHONPATH": paths}, capture_output=True, timeout=300, check=False)
-    assert ended.returncode == 130, ended
+    assert ended.returncode == 130 and b"lagconform: interrupted before the first test" in ended.stderr, ended
     assert json.loads((tmp_path / "r.json").read_text())["about"]["incomplete"] == "interrupted before the first test"
     assert (tmp_path / "r.tap").read_text().endswith("Bail out! interrupted before the first test\n")
 
