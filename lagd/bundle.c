@@ -1,6 +1,6 @@
-/* The bundle as a whole: up where all its links carry, degraded where some do, down where fewer than min-links do; and the program that is run where
- * that changes. */
-#include "lagd.h"
+/* The bundle as a whole: up where all its links carry, degraded where some do, down where fewer than min-links do, or the carrier of its device was
+ * taken; and the program that is run where that changes. */
+#include "device.h"
 
 #include <signal.h>
 #include <spawn.h>
@@ -68,7 +68,8 @@ void choose_and_tell_bundle(struct protocol *protocol) {
     choose_aggregator(protocol->core, &protocol->choice, protocol, &now);
     now.links = count_links(protocol->ports);
     uint16_t limit = protocol->settings->config.max_links, most = limit > 0 && limit < now.links ? limit : now.links;
-    now.state = now.carrying < protocol->settings->min_links ? BUNDLE_DOWN : now.carrying < most ? BUNDLE_DEGRADED : BUNDLE_UP;
+    bool is_down = now.carrying < protocol->settings->min_links || is_carrier_taken(protocol->device);
+    now.state = is_down ? BUNDLE_DOWN : now.carrying < most ? BUNDLE_DEGRADED : BUNDLE_UP;
     if (now.reported && now.state == protocol->bundle.state && now.links == protocol->bundle.links && now.carrying == protocol->bundle.carrying
         && now.aggregator == protocol->bundle.aggregator)
         return;

@@ -97,6 +97,11 @@ void pass_tap_tick(struct printer *printer, unsigned *carrier_ticks, const struc
             own->process->settings->carry);
 }
 
+/* Whether somebody else took the carrier of the device, for longer than the kernel takes to tell: nothing of the host goes. */
+bool is_carrier_taken(const struct device *own) {
+    return own->carrier_ticks >= CARRIER_TICKS;
+}
+
 /* The MAC address that the device has now: whoever administers it may change it. */
 bool read_tap_mac(const struct device *own, uint8_t *mac) {
     struct ifreq request = {0};

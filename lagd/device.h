@@ -28,6 +28,7 @@ bool give_tap_carrier(const struct plane *plane, bool on);
 void settle_tap_mtu(struct device *own);
 void set_carrier(struct device *own, bool on);
 bool has_carrier(const struct device *own);
+bool is_carrier_taken(const struct device *own);
 void set_speed(struct device *own, uint32_t megabits);
 void limit_and_settle_tap_mtu(struct device *own, uint32_t most);
 void pass_tap_tick(struct printer *printer, unsigned *carrier_ticks, const struct device *own);
