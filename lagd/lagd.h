@@ -304,6 +304,12 @@ struct halt {
     unsigned ticks; /* for how long peers are told */
 };
 
+/* An interface that is to be a port, whose lock another one has. */
+struct wanted_lock {
+    char name[NAME_ROOM];
+    uint64_t since; /* when that was seen first, in milliseconds */
+};
+
 /* Of the aggregator that carries. */
 struct choice {
     uint16_t last;     /* what choose_aggregator answered last, or 0 */
@@ -328,6 +334,7 @@ struct protocol {
     struct changes changes;
     struct halt halt;
     struct choice choice;
+    struct wanted_lock wanted_lock;
 };
 
 /* What each part above the protocol leads to. */

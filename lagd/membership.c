@@ -11,6 +11,10 @@
 #define LINGERS 1000
 /* For how long a conversation may wait for a marker, as flight.c has it, and the peer for an LACPDU. */
 #define MOST_WAIT 3000
+/* For how long a lock may be one that is on its way to be free, as a manager of services closes what it kept a moment later, in milliseconds. */
+#define LOCK_WAIT 1000
+
+static const char LOCKED[] = "another lagd has it";
 
 uint16_t count_links(const struct ports *ports) {
     uint16_t count = 0;
@@ -280,7 +284,7 @@ static const char *try_lock_of_interface(struct process *process, const struct p
     EACH_LINK_AS_IS(link, ports)
         if (link->used && link->socket >= 0 && link->index == interface.index) return "it is a port by another name";
     int lock = lock_interface(&process->store, process->inherited, interface.index);
-    if (lock < 0) return lock == -EADDRINUSE ? "another lagd has it" : strerror(-lock);
+    if (lock < 0) return lock == -EADDRINUSE ? LOCKED : strerror(-lock);
     close_stored(&process->store, "lock", interface.index, lock);
     return NULL;
 }
@@ -326,6 +330,16 @@ static bool hold_by_word(struct protocol *protocol, struct link *link, bool hold
     return !hold || note_whether_left(protocol->core, link);
 }
 
+/* Whether the lock of an interface may be free soon: it is waited for a second, and whoever asks later begins anew. */
+static bool note_wanted_and_may_be_free_soon(struct wanted_lock *own, const char *name) {
+    uint64_t now = milliseconds();
+    if (strcmp(own->name, name) != 0 || now - own->since >= (uint64_t)2 * LOCK_WAIT) {
+        snprintf(own->name, sizeof own->name, "%s", name);
+        own->since = now;
+    }
+    return now - own->since < LOCK_WAIT;
+}
+
 /* Does what somebody asks for, `add`, `remove`, `hold` or `release` of an interface, and answers: `done`, `wait` where it is to be asked again, as
  * `removed` is, or a refusal, and a line end. */
 void obey_order_and_answer(struct protocol *protocol, char *order, char answer[static ORDER_ROOM]) {
@@ -336,6 +350,8 @@ void obey_order_and_answer(struct protocol *protocol, char *order, char answer[s
     uint16_t port = link ? link->settings.number : 0;
     if (strncmp(order, "add ", 4) == 0) {
         fault = add_or_keep_by_words(protocol, name, &port, room);
+        done = fault != LOCKED || !note_wanted_and_may_be_free_soon(&protocol->wanted_lock, name);
+        if (!done) fault = NULL;
     } else if (strncmp(order, "removed ", 8) == 0) {
         done = link == NULL;
         if (link && !link->leaving) fault = "it stays in the bundle";

@@ -14,7 +14,7 @@ from checking import Failed, check, within
 from daemon import SYSTEM
 from lateness import LATE
 from repository import read_text, write_text
-from restarting import WAYS, Kept, Manager, seen
+from restarting import WAYS, Kept, Manager, managed, seen
 from spaces import OURS, THEIRS, inside, ip
 
 # How many links there are, and how many changes.
@@ -204,4 +204,18 @@ def timeouts(programs: Programs) -> None:
             theirs.ends("the other one")
 
 
-PARTS: dict[str, Callable[[Programs], None]] = {it.__name__: it for it in (changes, fewer, none_left, timeouts)}
+def removed_and_added(programs: Programs) -> None:
+    """A port is added as soon as it was removed, under a manager that closes the lock of its interface a moment later."""
+    with managed(programs, ()) as (kept, peer):
+        if not kept.manager:
+            raise Failed("there is a manager")
+        kept.manager.settle()
+        kept.manager.busy = 0.2
+        check(order(kept, "--remove", "a1").returncode == 0, "a port is removed", kept.printed())
+        added = order(kept, "--add", "a1")
+        check(added.returncode == 0, "and added at once, before the manager has closed its lock", added.stderr, kept.printed())
+        kept.manager.busy = 0.0
+        wait_for_links(kept, peer)
+
+
+PARTS: dict[str, Callable[[Programs], None]] = {it.__name__: it for it in (changes, fewer, none_left, timeouts, removed_and_added)}

@@ -57,6 +57,7 @@ class Manager:
     """What a manager of services does: it keeps the files that a daemon stores, and hands them to the next one."""
 
     copies = 1  # of each file that it hands over: systemd joins the same ones where the kernel can compare files
+    busy = 0.0  # for how many seconds it has other things to do before it closes what it is to keep no more
 
     def __init__(self, folder: str) -> None:
         want_systemd()
@@ -80,6 +81,8 @@ class Manager:
             files = array("i", b"".join(octets for _, kind, octets in more if kind == socket.SCM_RIGHTS))
             told = dict(line.partition("=")[::2] for line in text.decode().splitlines())
             name = told.get("FDNAME", "")
+            if "FDSTOREREMOVE" in told:
+                time.sleep(self.busy)
             if name in self.files and (files or "FDSTOREREMOVE" in told):
                 os.close(self.files.pop(name))
             if "FDSTORE" in told and files:
