@@ -73,11 +73,14 @@ bool has_carried_links(const struct inherited *inherited) {
 }
 
 /* Tells what became of the links of the last daemon, if some are there. */
-static void tell_links(struct printer *printer, const struct ports *ports, unsigned count) {
+static void tell_links(struct printer *printer, const struct ports *ports, bool device_down, unsigned count) {
     unsigned known = 0;
     EACH_LINK_AS_IS(link, ports) known += link->socket >= 0 && inherited_of(printer->process->inherited, link) != NULL;
     if (known > 0 && printer->process->inherited->others)
         (void)say(printer, LOG_WARNING | ABOUT_HANDOVER, "the state that the last daemon left is not used: it belongs to other settings");
+    else if (known > 0 && count > 0 && device_down)
+        (void)say(printer, LOG_WARNING | ABOUT_HANDOVER, "no link goes on where the last daemon left it: the device is down, and the peers of %u are told",
+            count);
     else if (known > 0)
         (void)say(printer, LOG_NOTICE | ABOUT_HANDOVER, "%u of %u links go on where the last daemon left them", count, count_links(ports));
 }
@@ -93,7 +96,7 @@ unsigned resume(struct core *core, const struct protocol *protocol, struct ports
         if (protocol->process->resuming && goes_on(inherited, link, now)) saved[count++] = saved_of(inherited, link, now);
     count = resume_system(core, protocol, saved, count);
     for (size_t i = 0; i < count; i++) recall_partner(protocol->process, &ports->links[saved[i].port - 1]);
-    tell_links(core->printer, ports, (unsigned)count);
+    tell_links(core->printer, ports, protocol->halt.down, (unsigned)count);
     return (unsigned)count;
 }
 

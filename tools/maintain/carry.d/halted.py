@@ -57,6 +57,7 @@ def device_down(programs: Programs) -> None:
             check_up(programs, kept, theirs, way)
             kept.again(signal.SIGKILL, between=lambda: ip(kept.at, "link", "set", DEVICE, "down"))
             check(within(STOPS, lambda: not theirs.carry()["carrier"]), f"{way}: it went down while no daemon was there: the peer is told", theirs.text(), kept.printed())
+            check("links go on" not in kept.printed() and "no link goes on" in kept.printed(), f"{way}: and no line says that links go on", kept.printed())
             check_up(programs, kept, theirs, f"{way}, after a crash")
             for _ in range(20):
                 ip(kept.at, "link", "set", DEVICE, "down")
