@@ -115,7 +115,6 @@ COPIES: tuple[Copy, ...] = (
          r'^{"record":"counts","packets":(\d+),"slow":(\d+),"ends":(\d+),"findings":(\d+),"beyond":(\d+)}$'),
     Copy(CONFORM, "Open vSwitch 3.1 failed {}, bonding {} and teamd {} ([MEASURED]", VERDICTS, r"^fail\t0\t(\d+)\t(\d+)\t(\d+)$"),
     Copy("CHANGELOG.md", "with {} tests", *CONFORMS),
-    Copy("docs/FIRMWARE.md", "|`lagconform` tests failed|0 of {}|", *CONFORMS),
 )
 
 
