@@ -139,7 +139,11 @@ pub delivered : (gives : Algorithms) (s : Side) (i : ℕ) (l : LinkState) (xs : 
     → first_head (port_at s l) xs ≡ Some head → WorldReceivesFirst gives s (port_at s l) xs (Some a) old mid
     → Concludes s head.port head.stamp a (with_links mid (slice_set old.links i (with_towards s (drop 1 xs) l))) r new
     → DeliversFrom gives s i l xs old r new
-delivered gives s i l xs head a old mid r new e h k = grind (arith, nat_tests)
+delivered gives s i l [] head a old mid r new e h k = absurd (none-some head e)
+delivered gives s i l (item ∷ rest) head a old mid r new e h k =
+    arrived gives s (port_at s l) item a (slice_set old.links i (with_towards s rest l)) old mid r new h
+    (subst (λ (z : Head). Concludes s z.port z.stamp a (with_links mid (slice_set old.links i (with_towards s rest l))) r new)
+    (sym (same_Some (make_head (port_at s l) item.stamp) head e)) k)
 
 both : {X : Type 0} (P Q : X → Type 0) (o : Option X) → IsSomeAnd o P → IsSomeAnd o Q → IsSomeAnd o (λ x. P x × Q x)
 both P Q o h k = grind (arith, nat_tests)
