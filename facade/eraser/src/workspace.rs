@@ -22,13 +22,16 @@ pub fn write_workspace(top: &Path) -> Done<bool> {
     let list = top.join("crates.txt");
     let members = members(&fs::read_to_string(&list)?);
     let mut is_old = true;
+    // Manifests first: cargo refuses a folder without one, so that a call that was interrupted could not be made again.
     for member in &members {
         let manifest = to.join(&member.name).join("Cargo.toml");
         is_old &= manifest.exists();
-        write_member(top, &member.name)?;
-        let is_program = to.join(&member.name).join("src/main.rs").exists();
+        let is_program = top.join("crates").join(&member.name).join("src/main.rt").exists();
         write(&manifest, &manifest_of(member, is_program, &members), &list)?;
         write(&to.join(&member.name).join("build.rs"), BUILD, &list)?;
+    }
+    for member in &members {
+        write_member(top, &member.name)?;
     }
     for entry in fs::read_dir(&to)? {
         let entry = entry?;
