@@ -57,7 +57,18 @@ reached_apart gives config es rs start new accepted first runs =
     λ same. start_differs config.systems config.cables.items start accepted first (sym (fixed One) ∙ (same ∙ fixed Two))
 
 pub reached_is_bundle : (Holds : LinkState → WorldState → Type 0) (gives : Algorithms) → ReachedIsBundle Holds gives
-reached_is_bundle Holds gives = grind (arith, nat_tests, reached_steady, reached_apart)
+reached_is_bundle Holds gives config es rs start new accepted i first runs few heard aggregators links =
+    let both = reached_steady gives config.systems es rs start new i first runs few in (
+      both.0,
+      record {
+        steady = both.1;
+        cabling = both.0.cabling;
+        differ = reached_apart gives config es rs start new accepted first runs;
+        heard = heard;
+        aggregators = aggregators;
+        links = links;
+      },
+    )
 
 -- and where hosts make any calls and settings
 pub host_reached_is_bundle : (Holds : LinkState → WorldState → Type 0) (gives : Algorithms) → HostReachedIsBundle Holds gives

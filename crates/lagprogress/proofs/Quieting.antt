@@ -266,11 +266,31 @@ as_beside at E gives old new h = replayed h (leaves_all at One true true h.event
 
 -- an Offer event leaves a system to itself, or offers it the frame
 
+offer_of : (s t : Side) (agg : AggId) (octets : List ℕ) (a : Result ℕ SystemFault) (mid : HalfState) (r : Reply) (old new : WorldState)
+    → AfterOffer s agg octets a (with_half s mid old) r (record new { acted = old.acted })
+    → ((half t new).state ≡ (half t old).state) ⊎ ((s ≡ t) × ((half t new).state ≡ mid.state))
+offer_of One One agg octets (Err fault) mid r old new h = inr (refl, ap (λ (w : WorldState). w.one.state) h.1)
+offer_of One One agg octets (Ok port) mid r old new h = inr (refl, ap (λ (w : WorldState). w.one.state) h.2)
+offer_of One Two agg octets (Err fault) mid r old new h = inl (ap (λ (w : WorldState). w.two.state) h.1)
+offer_of One Two agg octets (Ok port) mid r old new h = inl (ap (λ (w : WorldState). w.two.state) h.2)
+offer_of Two One agg octets (Err fault) mid r old new h = inl (ap (λ (w : WorldState). w.one.state) h.1)
+offer_of Two One agg octets (Ok port) mid r old new h = inl (ap (λ (w : WorldState). w.one.state) h.2)
+offer_of Two Two agg octets (Err fault) mid r old new h = inr (refl, ap (λ (w : WorldState). w.two.state) h.1)
+offer_of Two Two agg octets (Ok port) mid r old new h = inr (refl, ap (λ (w : WorldState). w.two.state) h.2)
+
 pub offered_half : (gives : Algorithms) (n : ℕ) (agg : AggId) (octets : Vec ℕ) (r : Reply) (old new : WorldState)
     → WorldSteps gives old (event.Offer n agg octets) r new → (t : Side)
     → ((half t new).state ≡ (half t old).state) ⊎ ((a : Result ℕ SystemFault)
     × Step (gives t) (half t old).state (Offer agg octets.items) (answer.Offer a) (half t new).state)
-offered_half gives n agg octets r old new h = grind (arith, nat_tests)
+offered_half gives n agg octets r old new h t = let v = value_of (side_of n) _ h.0 in
+    elim (offer_of v.0 t agg octets.items v.2.0 v.2.1 r old new v.2.3) [
+      | inl same ↦ inl same
+      | inr (is, e) ↦ inr (
+        v.2.0,
+        subst (λ (y : SystemState). Step (gives t) (half t old).state (Offer agg octets.items) (answer.Offer v.2.0) y) (sym e)
+            (subst (λ (u : Side). Step (gives u) (half u old).state (Offer agg octets.items) (answer.Offer v.2.0) v.2.1.state) is v.2.2.answers.step),
+      )
+    ]
 
 -- what one system does, in the eyes of either
 half_of : (R : Side → HalfState → HalfState → Type 0) (s t : Side) (old new : WorldState)
