@@ -594,7 +594,7 @@ def test_the_page_says_what_makes_the_counts_differ() -> None:
     assert f"`--long` adds {long}, which take more than {LONG} s each. Three links add {three}." in " ".join(text.split())
     with beside(World(Device())) as b:
         wanted = [run_one(b, it) for it in TESTS if it.hooks and it.links < 3]
-        skipped = listed([it.test.id for it in wanted if it.verdict == SKIPPED]).replace("RX-13", "RX-13 (but with `--flap`)")
+        skipped = listed([it.test.id for it in wanted if it.verdict == SKIPPED]).replace("RX-13", "RX-13 (but with `--flap`)").replace("RX-21", "RX-21 (likewise)")
         assert f"without `--hook`, {skipped} are skipped" in " ".join(text.split())
 
 
