@@ -282,10 +282,10 @@ def test_a_run_goes_on_where_another_one_ended(run, tmp_path: Path, capsys: pyte
     capsys.readouterr()
     assert run(KeyUnchecked, "--only", "FM-0*", "--only", "RX-07*", "--resume", "one.json", "--json", "two.json", "--report", "r.html") == 1
     said = capsys.readouterr().out
-    assert said.startswith("6 tests on 3 links\nfail           RX-07c ") and said.endswith(f"15 pass, 1 fail{LAST}")
+    assert said.startswith("7 tests on 3 links\nfail           RX-07c ") and said.endswith(f"15 pass, 2 fail{LAST}")
     assert f"\n{'':23}6.4.9 (recordPDU), by PROFILE: " in said and said.count(f"\n{'':23}of the run in one.json\n") == 1
     told = {it["id"]: it for it in json.loads((tmp_path / "two.json").read_text())["tests"]}
-    assert len(told) == 16 and told["RX-07c"]["notes"] == ["of the run in one.json"] and told["RX-07c"]["verdict"] == "fail"
+    assert len(told) == 17 and told["RX-07c"]["notes"] == ["of the run in one.json"] and told["RX-07c"]["verdict"] == "fail"
     assert run(Device, "--only", "FM-0*", "--only", "RX-07*", "--resume", "one.json") == 2  # another stack in a file of that name
     assert re.search("one.json: memory was .device.py, SHA-256 .* Verdicts are taken over from the same device and build", capsys.readouterr().err)
     for text, why in ("[]", "is no JSON of a run"), ('{"format": 1}', "is no JSON of a run"), ('{"tests": []}', "has format none, and --resume reads 1"):
