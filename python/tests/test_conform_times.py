@@ -31,7 +31,9 @@ def test_no_phase_of_its_period_makes_a_device_prompt(tenths: int) -> None:
 
 def test_a_whole_run_finds_what_is_not_prompt() -> None:
     found = {it.test.id: it.verdict for it in play(World(ToldWithThePeriod(), 3), TESTS)}
-    assert [name for name, verdict in found.items() if verdict == FAIL] == ToldWithThePeriod.finds.split()
+    # In this run its periodic LACPDU comes late in MX-05, too: by itself that test may not see it.
+    failed = [name for name, verdict in found.items() if verdict == FAIL]
+    assert "MX-05" in failed and [name for name in failed if name != "MX-05"] == ToldWithThePeriod.finds.split()
 
 
 def stand_still(world: World, seconds: float) -> None:
