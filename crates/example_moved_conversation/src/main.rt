@@ -194,6 +194,7 @@ fn play(alloc: Global) -> Result<Option<(u16, Story)>, SystemFault> {
     Ok(Some((ticks, story)))
 }
 
+/// Plays the story and prints it; the status is 1 where a step answers otherwise than the story has it.
 pub fn main(rt: HostRuntime) -> ExitCode {
     let Ok(Some((ticks, story))) = play(rt.alloc()) else {
         return ExitCode::FAILURE;
